@@ -1,0 +1,4 @@
+// Units and limits: what document 01's table of numbers fixes.
+pub mod limits;
+pub mod share;
+pub mod ticks;
