@@ -1,0 +1,3 @@
+// Admission: whether a table is taken, with its common period and weights, or the first refusal that applies.
+pub mod refusals;
+pub mod weights;
