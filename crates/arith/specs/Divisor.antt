@@ -1,4 +1,4 @@
--- Greatest common divisor and least common multiple; proofs/Divisor and proofs/Multiple show that they are that.
+-- Greatest common divisor and least common multiple; proofs/Euclid and proofs/Multiple show that they are that.
 use Prim.Native.Nat.{ℕ, zero, suc, _*_, _/_, _%_}
 
 -- at most k steps of Euclid's rule

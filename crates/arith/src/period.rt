@@ -19,12 +19,13 @@ pub fn common_period(table: &[u32]) -> Period
     let mut l: u32 = 1;
     let mut k: usize = 0;
     while k < n {
-        let m = lcm(l, table[2 * k + 1]);
+        let t = table[2 * k + 1];
+        let m = lcm(l, t);
+        k += 1;
         if (COMMON as u64) < m {
-            return Period::Over(k + 1);
+            return Period::Over(k);
         }
         l = m as u32;
-        k += 1;
     }
     Period::Common(l)
 }

@@ -1,0 +1,4 @@
+pub mod Rounding
+pub mod Euclid
+pub mod Multiple
+pub mod Table
