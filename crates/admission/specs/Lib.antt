@@ -1,2 +1,3 @@
 pub mod Weight
 pub mod Refusals
+pub mod Admission

@@ -41,6 +41,10 @@ tasksTest i [] = taken
 tasksTest i (c ∷ []) = taken
 tasksTest i (c ∷ t ∷ xs) = taskTest i c t orElse tasksTest (suc i) xs
 
+-- 1 to 4: what the numbers themselves show
+unfoldable pub inputTest : ℕ → List ℕ → Refusal
+inputTest m xs = coresTest m orElse tableTest xs orElse tasksTest 1 xs
+
 -- 6: the weights sum to more than M × L
 abbrev pub weightsTest : ℕ → ℕ → List ℕ → Refusal
 weightsTest m l ws = cond (ltb (m * l) (sum ws)) (refusal 6 0) taken

@@ -4,7 +4,7 @@ use units::limits::PERIOD;
 use units::limits::TASKS;
 ghost use mathlib.Core.Path.{_≡_};
 ghost use lib.ListN.{length};
-ghost use Rattle.admission.specs.Refusals.{coresTest, tableTest, taskTest, tasksTest, _orElse_};
+ghost use Rattle.admission.specs.Refusals.{coresTest, tableTest, taskTest, tasksTest, inputTest};
 
 // A refusal's number and the task that it names, 0 and 0 for none.
 pub struct Refusal {
@@ -68,7 +68,7 @@ fn tasks_test(table: &[u32]) -> Refusal
 
 // Refusals 1 to 4.
 pub fn input_test(cores: u32, table: &[u32]) -> Refusal
-    ensures { λ r. ⌜ r ≡ (coresTest cores orElse tableTest (now (table .entry)) orElse tasksTest 1 (now (table .entry))) ⌝ }
+    ensures { λ r. ⌜ r ≡ inputTest cores (now (table .entry)) ⌝ }
 {
     let first = cores_test(cores);
     if first.no != 0 {

@@ -1,5 +1,5 @@
 use Rattle.admission.proofs.First.{decides, leaves}
-use Rattle.admission.specs.Refusals.{coresTest, tableTest, tasksTest, _orElse_}
+use Rattle.admission.specs.Refusals.{coresTest, tableTest, tasksTest, inputTest, _orElse_}
 use borrow.Author.Needs.{needs}
 use Rattle.admission.proofs.refusals.input_test.Statement.{statement}
 use Rattle.admission.proofs.refusals.input_test.Tie as tie
@@ -13,6 +13,7 @@ cores-test-requires : tie.Need-cores-test-requires
 cores-test-requires c κs = search needs
 
 returns : tie.Need-returns
+unfolding inputTest
 returns c =
     let s = c .before .before .before .before .args in
     decides (c .before .before .cores-test .result) (coresTest (s .cores)) (tableTest (s .table .now) orElse tasksTest 1 (s .table .now)) (c .before .before .cores-test .ensures) (c .if1 .taken)
@@ -21,6 +22,7 @@ table-test-requires : tie.Need-table-test-requires
 table-test-requires c κs = search needs
 
 returns-2 : tie.Need-returns-2
+unfolding inputTest
 returns-2 c =
     let s = c .before .before .before .before .before .before .before .args in
     let one = c .before .before .before .before .before .cores-test in
@@ -32,6 +34,7 @@ tasks-test-requires : tie.Need-tasks-test-requires
 tasks-test-requires c κs = search needs
 
 returns-3 : tie.Need-returns-3
+unfolding inputTest
 returns-3 c =
     let s = c .before .before .before .before .before .before .before .before .args in
     let one = c .before .before .before .before .before .before .cores-test in

@@ -1,0 +1,73 @@
+-- A plan: cores M, the tasks, the common period L, and a line for each of sixty-four tasks.
+use Prim.Native.Nat.{ℕ, _-_, _/_}
+use mathlib.Core.Bool.{cond}
+use mathlib.Core.List.{List, [], _∷_, _++_, map}
+use lib.Dec.{eqb}
+use lib.ListN.{length, getD, replicate}
+use Rattle.units.specs.Limits.{coresLimit, tasksLimit}
+use Rattle.units.specs.Units.{share, ticks, nums, units}
+use Rattle.lists.specs.Lists.{zeros}
+use Rattle.arith.specs.Period.{periods, common}
+use Rattle.admission.specs.Weight.{weights, padded}
+use Rattle.admission.specs.Admission.{refusalOf}
+use Rattle.admission.specs.Refusals.{taken}
+use Rattle.assignment.specs.Passes.{sharesOf, rooms}
+use Rattle.planning.specs.declared.Line.{Line}
+use Rattle.planning.specs.declared.Plan.{Plan}
+use Rattle.planning.specs.declared.Planned.{Planned}
+
+-- a task's line: cost, period, weight and shares
+abbrev pub line : ℕ → ℕ → ℕ → List ℕ → Line
+line c t w row = record { cost = ticks c; period = ticks t; weight = share w; shares = units row }
+
+-- the line of no task: all numbers 0
+unfoldable pub emptyLine : Line
+emptyLine = line 0 0 0 (zeros coresLimit)
+
+-- what stands past the last line
+abbrev pub noLine : Line
+noLine = line 0 0 0 []
+
+-- the lines of a table, with its weights and rows of shares
+abbrev pub linesOf : List ℕ → List ℕ → List (List ℕ) → List Line
+linesOf [] ws rows = []
+linesOf (c ∷ []) ws rows = []
+linesOf (c ∷ t ∷ xs) [] rows = []
+linesOf (c ∷ t ∷ xs) (w ∷ ws) [] = []
+linesOf (c ∷ t ∷ xs) (w ∷ ws) (r ∷ rows) = line c t w r ∷ linesOf xs ws rows
+
+-- a line for each of sixty-four tasks; those past the last task are empty
+abbrev pub paddedLines : List Line → List Line
+paddedLines ls = ls ++ replicate (tasksLimit - length ls) emptyLine
+
+-- the empty plan: all numbers 0
+unfoldable pub emptyPlan : Plan
+emptyPlan = record { cores = 0; count = 0; common = 0; lines = replicate tasksLimit emptyLine }
+
+-- the plan of a table that is taken: m cores, common period l, weights ws
+unfoldable pub planFor : ℕ → ℕ → List ℕ → List ℕ → Plan
+planFor m l ws xs = record
+  { cores = m
+  ; count = length xs / 2
+  ; common = l
+  ; lines = paddedLines (linesOf xs ws (sharesOf (padded ws) (rooms m l)))
+  }
+
+-- planning: the first refusal that applies and the empty plan, or none and the plan
+unfoldable pub planOf : ℕ → List ℕ → Planned
+planOf m xs =
+    cond (eqb (refusalOf m xs .no) 0)
+    (record { refusal = taken; plan = planFor m (common (periods xs)) (weights (common (periods xs)) xs) xs })
+    (record { refusal = refusalOf m xs; plan = emptyPlan })
+
+-- a line's row of shares
+abbrev pub rowOf : Line → List ℕ
+rowOf ln = nums (ln .shares)
+
+-- a plan's table of shares
+abbrev pub tableOf : Plan → List (List ℕ)
+tableOf pl = map rowOf (pl .lines)
+
+-- a plan's weights
+abbrev pub weightsOf : Plan → List ℕ
+weightsOf pl = map (λ (ln : Line). ln .weight .0) (pl .lines)
