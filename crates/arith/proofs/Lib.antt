@@ -2,3 +2,6 @@ pub mod Rounding
 pub mod Euclid
 pub mod Multiple
 pub mod Table
+pub mod Common
+pub mod Within
+pub mod Examples

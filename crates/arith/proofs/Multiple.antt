@@ -1,5 +1,5 @@
 -- The least common multiple is a multiple of both numbers and divides each number that is.
-use Prim.Native.Nat.{ℕ, zero, _*_, _/_, _<_, _∣_}
+use Prim.Native.Nat.{ℕ, _*_, _/_, _<_, _∣_}
 use mathlib.Core.Path.{_≡_, ap}
 use mathlib.Core.Logic.{⊎-elim}
 use native.Mathlib.Nat.{

@@ -1,6 +1,6 @@
 -- A table walked task by task: its periods, and what each turn of the walk does to the answer.
 use Prim.Native.Nat.{ℕ, zero, suc, _+_, _*_, _/_, _≤_, _<_}
-use mathlib.Core.Path.{_≡_, refl, ap, sym, _∙_}
+use mathlib.Core.Path.{_≡_, refl}
 use mathlib.Core.List.{List, [], _∷_}
 use native.Mathlib.Numerals.{add-one}
 use native.Mathlib.Omega.{arith}
@@ -30,17 +30,15 @@ periods-at (c ∷ t ∷ xs) (suc k) = let e : 2 * suc k + 1 ≡ suc (suc (2 * k 
 drop-period : (xs : List ℕ) (k : ℕ) → k < length xs / 2 → drop k (periods xs) ≡ getD xs (2 * k + 1) 0 ∷ drop (k + 1) (periods xs)
 drop-period xs k h = rw (← (periods-at xs k), add-one k) (drop-cons (periods xs) k 0 (omega (arith, periods-length xs)))
 
-module _ (xs : List ℕ) (l j k : ℕ) where
-  -- a period that stays within the limit
-  pub period-next : k < length xs / 2 → lcm l (getD xs (2 * k + 1) 0) ≤ commonLimit
-      → periodFrom l j (drop k (periods xs)) ≡ periodFrom (lcm l (getD xs (2 * k + 1) 0)) (j + 1) (drop (k + 1) (periods xs))
-  period-next h m = rw (drop-period xs k h, le-ltb commonLimit (lcm l (getD xs (2 * k + 1) 0)) m, add-one j)
+module _ (xs : List ℕ) (l m k : ℕ) (h : k < length xs / 2) (e : m ≡ lcm l (getD xs (2 * k + 1) 0)) where
+  -- a period with which the common period m stays within the limit
+  pub period-next : m ≤ commonLimit → periodFrom l (k + 1) (drop k (periods xs)) ≡ periodFrom m (k + 1 + 1) (drop (k + 1) (periods xs))
+  period-next b = rw (drop-period xs k h, ← e, le-ltb commonLimit m b, add-one (k + 1))
 
-  -- one that does not
-  pub period-stop : k < length xs / 2 → commonLimit < lcm l (getD xs (2 * k + 1) 0)
-      → periodFrom l j (drop k (periods xs)) ≡ Over j
-  period-stop h m = rw (drop-period xs k h, lt-ltb commonLimit (lcm l (getD xs (2 * k + 1) 0)) m)
+  -- one with which it does not
+  pub period-stop : commonLimit < m → periodFrom l (k + 1) (drop k (periods xs)) ≡ Over (k + 1)
+  period-stop b = rw (drop-period xs k h, ← e, lt-ltb commonLimit m b)
 
-  -- the end of the table
-  pub period-end : length xs / 2 ≤ k → periodFrom l j (drop k (periods xs)) ≡ Common l
-  period-end h = rw (drop-of-length-le (periods xs) {i = k} (omega (arith, periods-length xs)))
+-- the end of the table
+pub period-end : (xs : List ℕ) (l k : ℕ) → length xs / 2 ≤ k → periodFrom l (k + 1) (drop k (periods xs)) ≡ Common l
+period-end xs l k h = rw (drop-of-length-le (periods xs) {i = k} (omega (arith, periods-length xs)))

@@ -22,7 +22,7 @@ returns-2 : tie.Need-returns-2
 returns-2 c = ceil-exact _ _ (pos-of-ne-zero (c .before .if1 .left)) (c .if2 .taken)
 
 returns-3 : tie.Need-returns-3
-returns-3 c = ceil-more _ _ (pos-of-ne-zero (c .before .if1 .left)) (pos-of-ne-zero (c .if2 .left))
+returns-3 c = omega (arith, ceil-more _ _ (pos-of-ne-zero (c .before .if1 .left)) (pos-of-ne-zero (c .if2 .left)))
 
 pub ceil-div-spec : {M : Type 1} → statement M
 ceil-div-spec = tie.close (tie.spec returns div-q rem-if2 add-result returns-2 returns-3)

@@ -1,9 +1,8 @@
 -- `arith::period::common_period` meets its contract: at each turn the periods that are left give the answer of the whole table.
-use Prim.Native.Nat.{ℕ, _+_, _-_, _*_, _/_, _≤_, _<_}
-use mathlib.Core.Path.{_≡_, refl, sym, ap, _∙_}
+use Prim.Native.Nat.{_+_, _-_, _≤_}
+use mathlib.Core.Path.{_≡_, refl, sym, _∙_}
 use native.Mathlib.Omega.{arith}
-use lib.ListN.{length, getD, drop}
-use Rattle.arith.specs.Divisor.{lcm}
+use lib.ListN.{drop}
 use Rattle.arith.specs.Period.{periods, periodFrom, periodOf}
 use Rattle.arith.proofs.Table.{period-next, period-stop, period-end}
 use Rattle.arith.proofs.period.common_period.Statement.{statement}
@@ -43,8 +42,8 @@ cast-if1 c = omega arith
 returns : tie.Need-returns Inv-loop μ-loop
 returns c =
     let s = c .before .before .before .before .loop in
-    sym (period-stop (c .before .before .before .before .before .before .args .table .now) (s .l) (s .k + 1) (s .k) (omega arith) (omega (arith, c .before .lcm .ensures)))
-    ∙ s .inv .1
+    let xs = c .before .before .before .before .before .before .args .table .now in
+    sym (period-stop xs (s .l) (c .before .lcm .result) (s .k) (omega arith) (c .before .lcm .ensures) (omega arith)) ∙ s .inv .1
 
 cast-l : tie.Need-cast-l Inv-loop μ-loop
 cast-l c = omega arith
@@ -54,17 +53,14 @@ loop-less c = omega arith
 
 loop-again : tie.Need-loop-again Inv-loop μ-loop
 loop-again c =
-    let s = c .before .before .before .before .loop in (
-      omega arith,
-      rw (c .before .lcm .ensures)
-          (sym (period-next (c .before .before .before .before .before .before .args .table .now) (s .l) (s .k + 1) (s .k) (omega arith) (omega (arith, c .before .lcm .ensures)))
-          ∙ s .inv .1),
-    )
+    let s = c .before .before .before .before .loop in
+    let xs = c .before .before .before .before .before .before .args .table .now in
+    (omega arith, sym (period-next xs (s .l) (c .before .lcm .result) (s .k) (omega arith) (c .before .lcm .ensures) (omega arith)) ∙ s .inv .1)
 
 returns-2 : tie.Need-returns-2 Inv-loop μ-loop
 returns-2 c =
     let s = c .before .loop in
-    sym (period-end (c .before .before .before .args .table .now) (s .l) (s .k + 1) (s .k) (omega arith)) ∙ s .inv .1
+    sym (period-end (c .before .before .before .args .table .now) (s .l) (s .k) (omega arith)) ∙ s .inv .1
 
 pub common-period-spec : {M : Type 1} → statement M
 common-period-spec =
