@@ -38,10 +38,10 @@ fine i c t e =
     let z = ltb periodLimit t in
     let three = failed (x || y || z) 2 i (cond (ltb t c) (refusal 4 i) taken) e in
     let four = failed (ltb t c) 3 i taken (three .1) in
-    record
-    { cost = pos-of-ne-zero (eqb-false c 0 (or-false-left x y (or-false-left (x || y) z (three .0))))
-    ; fits = ltb-false t c (four .0)
-    ; period = ltb-false periodLimit t (or-false-right (x || y) z (three .0))
+    record {
+      cost = pos-of-ne-zero (eqb-false c 0 (or-false-left x y (or-false-left (x || y) z (three .0))));
+      fits = ltb-false t c (four .0);
+      period = ltb-false periodLimit t (or-false-right (x || y) z (three .0));
     }
 
 -- each task is fine
@@ -75,13 +75,13 @@ kept m xs e =
     let z = eqb (n % 2) 1 in
     let g = failed (x || y || z) 1 0 taken (two .0) .0 in
     let odd : n % 2 ≡ 1 → ⊥ = eqb-false (n % 2) 1 (or-false-right (x || y) z g) in
-    record
-    { cores-some = pos-of-ne-zero (eqb-false m 0 (or-false-left (eqb m 0) (ltb coresLimit m) f))
-    ; cores-few = ltb-false coresLimit m (or-false-right (eqb m 0) (ltb coresLimit m) f)
-    ; tasks-some = pos-of-ne-zero (eqb-false n 0 (or-false-left x y (or-false-left (x || y) z g)))
-    ; tasks-few = ltb-false (2 * tasksLimit) n (or-false-right x y (or-false-left (x || y) z g))
-    ; whole = even n odd
-    ; tasks = tasks-fine 1 xs (two .1)
+    record {
+      cores-some = pos-of-ne-zero (eqb-false m 0 (or-false-left (eqb m 0) (ltb coresLimit m) f));
+      cores-few = ltb-false coresLimit m (or-false-right (eqb m 0) (ltb coresLimit m) f);
+      tasks-some = pos-of-ne-zero (eqb-false n 0 (or-false-left x y (or-false-left (x || y) z g)));
+      tasks-few = ltb-false (2 * tasksLimit) n (or-false-right x y (or-false-left (x || y) z g));
+      whole = even n odd;
+      tasks = tasks-fine 1 xs (two .1);
     }
   where
     even : (n : ℕ) → (n % 2 ≡ 1 → ⊥) → n % 2 ≡ 0

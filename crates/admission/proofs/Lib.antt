@@ -1,3 +1,4 @@
+pub mod Admitting
 pub mod First
 pub mod Kept
 pub mod Tasks

@@ -46,12 +46,12 @@ emptyPlan = record { cores = 0; count = 0; common = 0; lines = replicate tasksLi
 
 -- the plan of a table that is taken: m cores, common period l, weights ws
 unfoldable pub planFor : ℕ → ℕ → List ℕ → List ℕ → Plan
-planFor m l ws xs = record
-  { cores = m
-  ; count = length xs / 2
-  ; common = l
-  ; lines = paddedLines (linesOf xs ws (sharesOf (padded ws) (rooms m l)))
-  }
+planFor m l ws xs = record {
+  cores = m;
+  count = length xs / 2;
+  common = l;
+  lines = paddedLines (linesOf xs ws (sharesOf (padded ws) (rooms m l)));
+}
 
 -- planning: the first refusal that applies and the empty plan, or none and the plan
 unfoldable pub planOf : ℕ → List ℕ → Planned

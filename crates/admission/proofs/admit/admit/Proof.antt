@@ -1,29 +1,25 @@
+use Rattle.admission.specs.declared.refusals.Refusal.{Refusal}
+use Rattle.admission.proofs.Admitting.{answered, input-decides}
+use mathlib.Core.Path.{_≡_, refl, sym, ap, _∙_}
 use borrow.Author.Needs.{needs}
 use Rattle.admission.proofs.admit.admit.Statement.{statement}
 use Rattle.admission.proofs.admit.admit.Tie as tie
-use Rattle.admission.proofs.admit.admit.Reads as reads
-use Rattle.admission.proofs.admit.admit.Lts as lts
-use Rattle.admission.proofs.admit.admit_tasks.Reads as admit-tasks-reads
-use Rattle.admission.proofs.admit.refused.Reads as refused-reads
-use Rattle.admission.proofs.refusals.input_test.Reads as input-test-reads
 
--- src/admit.rt:56:9
 input-test-requires : tie.Need-input-test-requires
 input-test-requires c κs = search needs
 
--- src/admit.rt:58:9
 refused-requires : tie.Need-refused-requires
 refused-requires c κs = search needs
 
--- src/admit.rt:58:9
 returns : tie.Need-returns
-returns c = ?
+returns c =
+    let s = c .before .before .before .before .before .args in
+    let f = c .before .before .before .input-test in
+    c .refused .ensures ∙ answered (s .cores) (s .table .now) (f .result) (input-decides (s .cores) (s .table .now) (f .result) (f .ensures) (c .before .if1 .taken)) (c .before .if1 .taken)
 
--- src/admit.rt:60:5
 admit-tasks-requires : tie.Need-admit-tasks-requires
-admit-tasks-requires c κs = ?
+admit-tasks-requires c κs = sym (ap (λ (r : Refusal). r .no) (c .before .before .input-test .ensures)) ∙ c .if1 .left
 
--- src/admit.rt:53:1
 returns-2 : tie.Need-returns-2
 returns-2 c = search needs
 

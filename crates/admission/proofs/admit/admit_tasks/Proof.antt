@@ -1,51 +1,72 @@
+use mathlib.Core.List.{List}
+use Rattle.units.specs.Units.{units}
+use Rattle.units.specs.declared.share.Share.{Share}
+use Rattle.units.proofs.Units.{units-nums}
+use Rattle.arith.specs.Period.{periods, periodOf}
+use Rattle.arith.specs.declared.period.Period.the-variants.{Common}
+use Rattle.admission.specs.Refusals.{refusal, taken}
+use Rattle.admission.specs.Admission.{takenWith}
+use Rattle.admission.proofs.Admitting.{answered, over, heavy, light, weighable, cores-small}
+use mathlib.Core.Path.{_≡_, refl, sym, ap, _∙_}
+use native.Mathlib.Omega.{arith}
 use borrow.Author.Needs.{needs}
 use Rattle.admission.proofs.admit.admit_tasks.Statement.{statement}
 use Rattle.admission.proofs.admit.admit_tasks.Tie as tie
-use Rattle.admission.proofs.admit.admit_tasks.Reads as reads
-use Rattle.admission.proofs.admit.admit_tasks.Lts as lts
-use Rattle.admission.proofs.admit.refused.Reads as refused-reads
-use Rattle.admission.proofs.weights.weigh.Reads as weigh-reads
-use Rattle.arith.proofs.period.common_period.Reads as common-period-reads
 
--- src/admit.rt:35:11
 common-period-requires : tie.Need-common-period-requires
 common-period-requires c κs = search needs
 
--- src/admit.rt:36:22
 enum-known-k : tie.Need-enum-known-k
 enum-known-k c = search needs
 
--- src/admit.rt:36:28
 refused-requires : tie.Need-refused-requires
 refused-requires c κs = search needs
 
--- src/admit.rt:37:24
 enum-known-l : tie.Need-enum-known-l
 enum-known-l c = search needs
 
--- src/admit.rt:38:17
+-- the period that was answered, as the definition has it
+known : (a : tie.After-l) → periodOf (periods (a .before .before .before .before .args .table .now)) ≡ Common (a .l .given .0 .0)
+known a = sym (a .before .before .common-period .ensures) ∙ a .l .given .1
+
 weigh-requires : tie.Need-weigh-requires
-weigh-requires c κs = ?
+weigh-requires c κs = weighable (c .before .before .before .before .before .args .cores) (c .before .before .before .before .before .args .table .now) (c .before .before .before .before .before .pre) (c .before .l .given .0 .0) (known (c .before))
 
--- src/admit.rt:39:16
 mul-if1 : tie.Need-mul-if1
-mul-if1 c = ?
+mul-if1 c =
+    let s = c .before .before .before .before .before .before in
+    let a = c .before .before in
+    omega (arith, cores-small (s .args .cores) (s .args .table .now) (s .pre) (a .l .given .0 .0) (known a))
 
--- src/admit.rt:40:17
 refused-requires-2 : tie.Need-refused-requires-2
 refused-requires-2 c κs = search needs
 
--- src/admit.rt:40:17
 returns : tie.Need-returns
-returns c = ?
+returns c =
+    let s = c .before .before .before .before .before .before .before .before .before in
+    let a = c .before .before .before .before .before in
+    let w = c .before .before .before .weigh in
+    c .refused2 .ensures ∙ answered (s .args .cores) (s .args .table .now) (refusal 6 0)
+    (heavy (s .args .cores) (s .args .table .now) (s .pre) (a .l .given .0 .0) (known a) (omega (arith, w .ensures .1, c .before .if1 .taken)))
+    (λ z. omega arith)
 
--- src/admit.rt:31:1
 returns-2 : tie.Need-returns-2
-returns-2 c = ?
+returns-2 c =
+    let s = c .before .before .before .before .before .before in
+    let k = c .before .before in
+    c .refused .ensures ∙ answered (s .args .cores) (s .args .table .now) (refusal 5 (k .k .given .0 .0))
+    (over (s .args .cores) (s .args .table .now) (s .pre) (k .k .given .0 .0) (sym (k .before .before .common-period .ensures) ∙ k .k .given .1))
+    (λ z. omega arith)
 
--- src/admit.rt:31:1
 returns-3 : tie.Need-returns-3
-returns-3 c = ?
+unfolding takenWith
+returns-3 c =
+    let s = c .before .before .before .before .before .before .before .before .before in
+    let a = c .before .before .before .before .before in
+    let w = c .before .before .before .weigh in
+    ap (λ (ws : List Share). record { refusal = taken; common = a .l .given .0 .0; weights = ws })
+    (sym (units-nums (w .result .weights)) ∙ ap units (w .ensures .0))
+    ∙ light (s .args .cores) (s .args .table .now) (s .pre) (a .l .given .0 .0) (known a) (omega (arith, w .ensures .1, c .before .if1 .left))
 
 pub admit-tasks-spec : {M : Type 1} → statement M
 admit-tasks-spec =

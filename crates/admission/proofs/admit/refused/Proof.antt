@@ -1,11 +1,11 @@
+use Rattle.admission.specs.Admission.{refusedWith}
+use mathlib.Core.Path.{refl}
 use Rattle.admission.proofs.admit.refused.Statement.{statement}
 use Rattle.admission.proofs.admit.refused.Tie as tie
-use Rattle.admission.proofs.admit.refused.Reads as reads
-use Rattle.admission.proofs.admit.refused.Lts as lts
 
--- src/admit.rt:20:1
 returns : tie.Need-returns
-returns c = ?
+unfolding refusedWith
+returns c = refl
 
 pub refused-spec : {M : Type 1} → statement M
 refused-spec = tie.close (tie.spec returns)

@@ -1,8 +1,6 @@
 use borrow.Author.Needs.{needs}
 use Rattle.admission.proofs.refusals.cores_test.Statement.{statement}
 use Rattle.admission.proofs.refusals.cores_test.Tie as tie
-use Rattle.admission.proofs.refusals.cores_test.Reads as reads
-use Rattle.admission.proofs.refusals.cores_test.Lts as lts
 
 cast-if1 : tie.Need-cast-if1
 cast-if1 c = search needs

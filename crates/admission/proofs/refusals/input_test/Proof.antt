@@ -3,11 +3,6 @@ use Rattle.admission.specs.Refusals.{coresTest, tableTest, tasksTest, in
 use borrow.Author.Needs.{needs}
 use Rattle.admission.proofs.refusals.input_test.Statement.{statement}
 use Rattle.admission.proofs.refusals.input_test.Tie as tie
-use Rattle.admission.proofs.refusals.input_test.Reads as reads
-use Rattle.admission.proofs.refusals.input_test.Lts as lts
-use Rattle.admission.proofs.refusals.cores_test.Reads as cores-test-reads
-use Rattle.admission.proofs.refusals.table_test.Reads as table-test-reads
-use Rattle.admission.proofs.refusals.tasks_test.Reads as tasks-test-reads
 
 cores-test-requires : tie.Need-cores-test-requires
 cores-test-requires c κs = search needs

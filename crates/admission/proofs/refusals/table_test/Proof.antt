@@ -1,8 +1,6 @@
 use borrow.Author.Needs.{needs}
 use Rattle.admission.proofs.refusals.table_test.Statement.{statement}
 use Rattle.admission.proofs.refusals.table_test.Tie as tie
-use Rattle.admission.proofs.refusals.table_test.Reads as reads
-use Rattle.admission.proofs.refusals.table_test.Lts as lts
 
 mul-if1 : tie.Need-mul-if1
 mul-if1 c = search needs

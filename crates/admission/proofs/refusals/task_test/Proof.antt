@@ -1,8 +1,6 @@
 use borrow.Author.Tests.{lt-ltb, le-ltb}
 use Rattle.admission.proofs.refusals.task_test.Statement.{statement}
 use Rattle.admission.proofs.refusals.task_test.Tie as tie
-use Rattle.admission.proofs.refusals.task_test.Reads as reads
-use Rattle.admission.proofs.refusals.task_test.Lts as lts
 
 returns : tie.Need-returns
 returns c = rw (c .if1 .taken)

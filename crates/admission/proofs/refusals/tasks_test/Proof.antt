@@ -7,9 +7,6 @@ use Prim.Native.Nat.{_+_, _*_, _-_, _/_, _≤_}
 use mathlib.Core.Path.{_≡_, refl, sym, ap, _∙_}
 use Rattle.admission.proofs.refusals.tasks_test.Statement.{statement}
 use Rattle.admission.proofs.refusals.tasks_test.Tie as tie
-use Rattle.admission.proofs.refusals.tasks_test.Reads as reads
-use Rattle.admission.proofs.refusals.tasks_test.Lts as lts
-use Rattle.admission.proofs.refusals.task_test.Reads as task-test-reads
 
 abbrev Inv-loop : tie.InvT-loop
 Inv-loop table n k₀ k = (k ≤ n) × (n ≡ length table / 2) × (tasksTest (k + 1) (drop (2 * k) table) ≡ tasksTest 1 table)

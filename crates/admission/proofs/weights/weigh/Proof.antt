@@ -7,9 +7,6 @@ use Prim.Native.Nat.{_-_, _/_}
 use mathlib.Core.Path.{_≡_, refl}
 use Rattle.admission.proofs.weights.weigh.Statement.{statement}
 use Rattle.admission.proofs.weights.weigh.Tie as tie
-use Rattle.admission.proofs.weights.weigh.Reads as reads
-use Rattle.admission.proofs.weights.weigh.Lts as lts
-use Rattle.admission.proofs.weights.weight_of.Reads as weight-of-reads
 
 abbrev Inv-loop : tie.InvT-loop
 Inv-loop table common n weights₀ sum₀ k₀ weights sum k = (n ≡ length table / 2) × Weighing common table (nums weights) (sum .0) k

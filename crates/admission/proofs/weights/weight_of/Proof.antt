@@ -3,8 +3,6 @@ use native.Mathlib.Omega.{arith}
 use borrow.Author.Needs.{needs}
 use Rattle.admission.proofs.weights.weight_of.Statement.{statement}
 use Rattle.admission.proofs.weights.weight_of.Tie as tie
-use Rattle.admission.proofs.weights.weight_of.Reads as reads
-use Rattle.admission.proofs.weights.weight_of.Lts as lts
 
 div-t4 : tie.Need-div-t4
 div-t4 c = search needs
