@@ -25,21 +25,24 @@ record Found (l : ℕ) (ts : List ℕ) (i : ℕ) : Type 0 where
   within : Within l ts i
   over : commonLimit < commonFrom l (take (suc i) ts)
 
--- what an answer says that counts these tasks from k
+-- what an answer should say that counts these tasks from k
 abbrev Says : ℕ → ℕ → List ℕ → Period → Type 0
 Says l k ts (Common m) = (m ≡ commonFrom l ts) × Within l ts (length ts)
 Says l k ts (Over n) = (i : ℕ) × (n ≡ k + i) × Found l ts i
 
 module _ (l t : ℕ) (ts : List ℕ) (h : l ≤ commonLimit) where
+  -- a task more at the front
   within-more : (n : ℕ) → Within (lcm l t) ts n → Within l (t ∷ ts) (suc n)
   within-more n w zero b = h
   within-more n w (suc j) b = w j (omega arith)
 
+  -- an answer to the later tasks is one to all of them
   says-more : (k : ℕ) (p : Period) → Says (lcm l t) (suc k) ts p → Says l k (t ∷ ts) p
   says-more k (Common m) s = (s .0, within-more (length ts) (s .1))
   says-more k (Over n) s =
       (suc (s .0), omega arith, record { to = omega (arith, s .2 .to); within = within-more (s .0) (s .2 .within); over = s .2 .over })
 
+  -- a task that takes the common period over the limit is the answer
   says-here : (k : ℕ) → commonLimit < lcm l t → Says l k (t ∷ ts) (Over k)
   says-here k b = (0, omega arith, record { to = omega arith; within = none; over = b })
     where
@@ -47,6 +50,7 @@ module _ (l t : ℕ) (ts : List ℕ) (h : l ≤ commonLimit) where
       none zero c = h
       none (suc j) c = absurd (omega arith)
 
+-- every answer says what it should
 says : (l k : ℕ) (ts : List ℕ) → l ≤ commonLimit → Says l k ts (periodFrom l k ts)
 says l k [] h = (refl, λ j b. rw (take-nil j) h)
 says l k (t ∷ ts) h =
@@ -61,6 +65,7 @@ pub record First (ts : List ℕ) (k : ℕ) : Type 0 where
   pub before : (j : ℕ) → j < k → common (take j ts) ≤ commonLimit
   pub over : commonLimit < common (take k ts)
 
+-- and so for all tasks of a table
 answer : (ts : List ℕ) (p : Period) → periodOf ts ≡ p → Says 1 1 ts p
 unfolding periodOf
 answer ts p e = rw e at (says 1 1 ts (omega arith))
