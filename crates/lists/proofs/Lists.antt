@@ -58,6 +58,18 @@ atMost-lt (x ∷ xs) h =
     (λ e. rw e (omega arith))
     (λ e. rw e (omega (arith, atMost-lt xs (most-some xs x (leb-false (most xs) x e)))))
 
+-- what stands before the first largest number is less
+pub atMost-first : (xs : List ℕ) (p : ℕ) → p < atMost xs → getD xs p 0 < most xs
+atMost-first [] p h = absurd (omega arith)
+atMost-first (x ∷ xs) zero h =
+    by-cases (leb (most xs) x)
+    (λ e. absurd (omega (arith, rw e at h)))
+    (λ e. omega (arith, leb-false (most xs) x e))
+atMost-first (x ∷ xs) (suc p) h =
+    by-cases (leb (most xs) x)
+    (λ e. absurd (omega (arith, rw e at h)))
+    (λ e. omega (arith, atMost-first xs p (omega (arith, rw e at h))))
+
 pub zeros-at : (m p : ℕ) → getD (zeros m) p 0 ≡ 0
 zeros-at zero p = refl
 zeros-at (suc m) zero = refl
@@ -93,6 +105,14 @@ parts-some (x ∷ r) h =
     ⊎-elim
     (λ k. omega (arith, parts-cons x r))
     (λ k. omega (arith, parts-cons x r, ltb-false 0 x (k .0), parts-some r (omega (arith, ltb-false 0 x (k .0)))))
+    (bit-cases (ltb 0 x))
+
+pub parts-most : (r : List ℕ) → 0 < parts r → 0 < most r
+parts-most [] h = h
+parts-most (x ∷ r) h =
+    ⊎-elim
+    (λ k. omega (arith, ltb-true 0 x (k .0)))
+    (λ k. omega (arith, parts-most r (omega (arith, parts-cons x r))))
     (bit-cases (ltb 0 x))
 
 pub parts-none : (r : List ℕ) → parts r ≡ 0 → sum r ≡ 0

@@ -1,0 +1,4 @@
+pub mod Place
+pub mod Picks
+pub mod Counted
+pub mod Stored
