@@ -1,2 +1,4 @@
 pub mod Tests
 pub mod Lists
+pub mod Parts
+pub mod Rows
