@@ -3,3 +3,4 @@ pub mod Lists
 pub mod Pairs
 pub mod Parts
 pub mod Rows
+pub mod Filled

@@ -23,12 +23,6 @@ parts-one r p e h =
     let s = parts-split r p in
     omega (arith, parts-none (take p r) (omega arith), parts-none (drop (suc p) r) (omega arith), sum-take-suc r p, sum-ends r (suc p))
 
--- where there is one, the largest number is one
-pub parts-most : (r : List ℕ) → 0 < parts r → 0 < most r
-parts-most [] h = h
-parts-most (zero ∷ r) h = omega (arith, parts-most r h)
-parts-most (suc x ∷ r) h = omega arith
-
 -- the first one stands no higher than any other
 pub first-le : (r : List ℕ) (p : ℕ) → 0 < getD r p 0 → firstPart r ≤ p
 first-le [] p h = absurd (omega arith)

@@ -5,8 +5,7 @@ use mathlib.Core.List.{List, [], _∷_}
 use native.Mathlib.Omega.{arith}
 use lib.ListN.{length, set}
 use Rattle.lists.specs.Lists.{sum, most, atMost, parts}
-use Rattle.lists.proofs.Lists.{atMost-is, atMost-lt, most-some, sum-set, parts-none, parts-set}
-use Rattle.lists.proofs.Parts.{parts-most}
+use Rattle.lists.proofs.Lists.{atMost-is, atMost-lt, most-some, sum-set, parts-none, parts-set, parts-most}
 use Rattle.ordering.specs.Order.{weightsOf, inOrder}
 use Rattle.placed.proofs.Guard.{Falls}
 

@@ -1,4 +1,4 @@
-use Rattle.admission.proofs.Weighing.{Weighing, start, next, sum-small, finish}
+use Rattle.admission.proofs.Weighing.{Weighing, start, step, sum-small, finish}
 use Rattle.units.proofs.Units.{nums-set}
 use Rattle.units.specs.Units.{nums}
 use native.Mathlib.Omega.{arith}
@@ -15,7 +15,7 @@ abbrev μ-loop : tie.MeasureT-loop
 μ-loop table common n weights₀ sum₀ k₀ weights sum k = n - k
 
 loop-holds : tie.Need-loop-holds Inv-loop μ-loop
-loop-holds c = (refl, start _ _ _ refl)
+loop-holds c = (refl, start _ _)
 
 mul-weight-of : tie.Need-mul-weight-of Inv-loop μ-loop
 mul-weight-of c = omega arith
@@ -69,7 +69,7 @@ loop-again c =
     let w = c .before .before .weight-of in (
       refl,
       rw (nums-set (l .weights) (l .k) (w .result))
-          (next (s .args .common) (s .args .table .now) (nums (l .weights)) (l .sum .0) (l .k) (w .result .0) (l .inv .1) (omega arith) (omega (arith, s .pre .short)) (w .ensures .0) (w .ensures .1)),
+          (step (s .args .common) (s .args .table .now) (nums (l .weights)) (l .sum .0) (l .k) (w .result .0) (l .inv .1) (omega arith) (omega (arith, s .pre .short)) (w .ensures .0) (w .ensures .1)),
     )
 
 returns : tie.Need-returns Inv-loop μ-loop
