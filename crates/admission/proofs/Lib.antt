@@ -1,4 +1,5 @@
 pub mod Admitting
+pub mod Answers
 pub mod First
 pub mod Kept
 pub mod Tasks

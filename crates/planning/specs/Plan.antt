@@ -12,6 +12,7 @@ use Rattle.admission.specs.Weight.{weights, padded}
 use Rattle.admission.specs.Admission.{refusalOf}
 use Rattle.admission.specs.Refusals.{taken}
 use Rattle.assignment.specs.Passes.{sharesOf, rooms}
+use Rattle.admission.specs.declared.refusals.Refusal.{Refusal}
 use Rattle.planning.specs.declared.Line.{Line}
 use Rattle.planning.specs.declared.Plan.{Plan}
 use Rattle.planning.specs.declared.Planned.{Planned}
@@ -44,21 +45,29 @@ paddedLines ls = ls ++ replicate (tasksLimit - length ls) emptyLine
 unfoldable pub emptyPlan : Plan
 emptyPlan = record { cores = 0; count = 0; common = 0; lines = replicate tasksLimit emptyLine }
 
--- the plan of a table that is taken: m cores, common period l, weights ws
+-- the plan of a table that is taken: m cores, common period l, and a weight for each of sixty-four tasks
 unfoldable pub planFor : ℕ → ℕ → List ℕ → List ℕ → Plan
-planFor m l ws xs = record {
-  cores = m;
-  count = length xs / 2;
-  common = l;
-  lines = paddedLines (linesOf xs ws (sharesOf (padded ws) (rooms m l)));
-}
+planFor m l ws xs = record
+  { cores = m
+  ; count = length xs / 2
+  ; common = l
+  ; lines = paddedLines (linesOf xs ws (sharesOf ws (rooms m l)))
+  }
 
--- planning: the first refusal that applies and the empty plan, or none and the plan
+-- a refusal and the empty plan
+unfoldable pub refusedPlan : Refusal → Planned
+refusedPlan r = record { refusal = r; plan = emptyPlan }
+
+-- no refusal and a plan
+unfoldable pub takenPlan : Plan → Planned
+takenPlan pl = record { refusal = taken; plan = pl }
+
+-- planning: the first refusal that applies, or the plan
 unfoldable pub planOf : ℕ → List ℕ → Planned
 planOf m xs =
     cond (eqb (refusalOf m xs .no) 0)
-    (record { refusal = taken; plan = planFor m (common (periods xs)) (weights (common (periods xs)) xs) xs })
-    (record { refusal = refusalOf m xs; plan = emptyPlan })
+    (takenPlan (planFor m (common (periods xs)) (padded (weights (common (periods xs)) xs)) xs))
+    (refusedPlan (refusalOf m xs))
 
 -- a line's row of shares
 abbrev pub rowOf : Line → List ℕ

@@ -13,7 +13,7 @@ ghost use lib.ListN.{length};
 ghost use Rattle.units.specs.Limits.{coresLimit, tasksLimit};
 ghost use Rattle.units.specs.Units.{nums};
 ghost use Rattle.assignment.specs.Passes.{rooms, rowsOf};
-ghost use Rattle.planning.specs.Plan.{linesOf, paddedLines, emptyPlan, planOf};
+ghost use Rattle.planning.specs.Plan.{linesOf, paddedLines, emptyPlan, planFor, planOf};
 
 // A task's line: what the table says of it, and what it is given.
 pub struct Line {
@@ -86,7 +86,10 @@ fn lines_of(table: &[u32], weights: [Share; TASKS], rows: [Row; TASKS]) -> [Line
 }
 
 // The plan of a table that is taken.
-fn drawn(cores: u32, table: &[u32], common: u32, weights: [Share; TASKS]) -> Plan {
+fn drawn(cores: u32, table: &[u32], common: u32, weights: [Share; TASKS]) -> Plan
+    requires { ⌜ (cores ≤ coresLimit) × (length (now table) ≤ 2 * tasksLimit) ⌝ }
+    ensures { λ r. ⌜ r ≡ planFor cores common (nums weights) (now (table .entry)) ⌝ }
+{
     let m = cores as usize;
     let room = rooms_of(m, common);
     let rows = shares_of(weights, room);
