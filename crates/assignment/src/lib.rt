@@ -1,13 +1,14 @@
 // The two passes of assignment: which core has how much of which task.
 use ordering::Order;
-use ordering::order_of;
 use units::limits::CORES;
 use units::limits::TASKS;
 use units::share::Share;
 ghost use mathlib.Core.Path.{_≡_};
 ghost use Rattle.lists.specs.Lists.{atMost};
+ghost use Rattle.units.specs.Limits.{coresLimit, tasksLimit};
 ghost use Rattle.units.specs.Units.{nums};
-ghost use Rattle.assignment.specs.Passes.{cut as cutOf, rest as restOf, sharesOf, rowsOf};
+ghost use Rattle.assignment.specs.Passes.{cut as cutOf, rest as restOf, blank, sharesOf, rowsOf};
+ghost use Rattle.assignment.specs.Placing.{placeTwo, place, from, Among};
 
 // A number for each core: one task's shares, or the cores' room.
 pub struct Row {
@@ -64,45 +65,47 @@ fn pass_two(
     weights: [Share; TASKS],
     room: Row,
     rows: [Row; TASKS],
-) -> [Row; TASKS] {
-    let mut rows = rows;
-    let mut room = room;
+) -> [Row; TASKS]
+    requires { ⌜ Among order ⌝ }
+    ensures { λ r. ⌜ rowsOf r ≡ placeTwo (nums weights) (from order k) (nums (room .shares)) (rowsOf rows) ⌝ }
+{
+    let mut table = rows;
+    let mut left = room;
     let mut i = k;
     while i < order.count {
         let t = order.tasks[i];
         let w = weights[t];
-        let given = cut(w, room);
+        let given = cut(w, left);
         let row = given.row;
-        rows[t] = row;
-        room = given.room;
+        table[t] = row;
+        left = given.room;
         i += 1;
     }
-    rows
+    table
 }
 
-// The shares of each task on each core, for the tasks' weights and the cores' room.
-pub fn shares_of(weights: [Share; TASKS], room: Row) -> [Row; TASKS]
-    ensures { λ r. ⌜ rowsOf r ≡ sharesOf (nums weights) (nums (room .shares)) ⌝ }
+// Pass one over the tasks in order, and pass two from the first misfit on.
+fn pass_one(order: Order, weights: [Share; TASKS], room: Row, rows: [Row; TASKS]) -> [Row; TASKS]
+    requires { ⌜ Among order ⌝ }
+    ensures { λ r. ⌜ rowsOf r ≡ place (nums weights) (from order 0) (nums (room .shares)) (rowsOf rows) ⌝ }
 {
-    let order = order_of(weights);
-    let mut rows = [Row {
-        shares: [Share::EMPTY; CORES],
-    }; TASKS];
-    let mut room = room;
+    let mut table = rows;
+    let mut left = room;
     let mut i: usize = 0;
     while i < order.count {
         let t = order.tasks[i];
         let w = weights[t];
-        let p = roomiest(room);
-        let have = room.shares[p];
+        let p = roomiest(left);
+        let have = left.shares[p];
         if have.0 < w.0 {
-            return pass_two(order, i, weights, room, rows);
+            return pass_two(order, i, weights, left, table);
         }
         let mut row = [Share::EMPTY; CORES];
         row[p] = w;
-        rows[t] = Row { shares: row };
-        room.shares[p] = have.rest(w);
+        table[t] = Row { shares: row };
+        let rest = have.rest(w);
+        left.shares[p] = rest;
         i += 1;
     }
-    rows
+    table
 }

@@ -1,0 +1,76 @@
+use Prim.Native.Nat.{_≤_, _-_}
+use mathlib.Core.Path.{_≡_, sym, _∙_}
+use mathlib.Core.Logic.{⊎-elim}
+use native.Mathlib.Omega.{arith}
+use borrow.Author.Needs.{needs}
+use lib.ListN.{length, length-map}
+use Rattle.units.specs.Limits.{coresLimit}
+use Rattle.units.specs.Units.{nums}
+use Rattle.units.proofs.Units.{nums-length, nums-at}
+use Rattle.assignment.proofs.Best.{Best, first, better, kept, last}
+use Rattle.assignment.proofs.roomiest.Statement.{statement}
+use Rattle.assignment.proofs.roomiest.Tie as tie
+use Rattle.assignment.proofs.roomiest.Reads as reads
+use Rattle.assignment.proofs.roomiest.Lts as lts
+
+abbrev Inv-loop : tie.InvT-loop
+Inv-loop room best₀ p₀ best p = (length (nums (room .shares)) ≡ coresLimit) × (p ≤ coresLimit) × Best (nums (room .shares)) best p
+
+abbrev μ-loop : tie.MeasureT-loop
+μ-loop room best₀ p₀ best p = coresLimit - p
+
+loop-holds : tie.Need-loop-holds Inv-loop μ-loop
+loop-holds c =
+    let s = c .args .t1 .shares in
+    (nums-length s ∙ sym (length-map s _) ∙ c .good .0 .1 .1 .0 .1 .0 .1, omega arith, first _)
+
+mul-most : tie.Need-mul-most Inv-loop μ-loop
+mul-most c = search needs
+
+element-copy-out-most : tie.Need-element-copy-out-most Inv-loop μ-loop
+element-copy-out-most c = search needs
+
+mul-here : tie.Need-mul-here Inv-loop μ-loop
+mul-here c = search needs
+
+element-copy-out-here : tie.Need-element-copy-out-here Inv-loop μ-loop
+element-copy-out-here c = search needs
+
+add-p : tie.Need-add-p Inv-loop μ-loop
+add-p c = search needs
+
+loop-less : tie.Need-loop-less Inv-loop μ-loop
+loop-less c = search needs
+
+loop-again : tie.Need-loop-again Inv-loop μ-loop
+loop-again c =
+    let s = c .before .before .before .before .before .before .before .args .t1 .shares in
+    let at = c .before .before .before .before .before .before .loop in
+    let best = nums-at s (at .best) in
+    let here = nums-at s (at .p) in (
+      at .inv .0,
+      omega arith,
+      ⊎-elim
+          (λ w. rw (w .1) (better _ _ _ (at .inv .2) (omega arith) (omega arith)))
+          (λ w. rw (w .1) (kept _ _ _ (at .inv .2) (omega arith) (omega arith)))
+          (c .if1 .came),
+    )
+
+returns : tie.Need-returns Inv-loop μ-loop
+returns c = last _ _ _ (c .before .loop .inv .2) (omega arith)
+
+pub roomiest-spec : {M : Type 1} → statement M
+roomiest-spec =
+    tie.close
+    (tie.spec
+    Inv-loop
+    μ-loop
+    loop-holds
+    mul-most
+    element-copy-out-most
+    mul-here
+    element-copy-out-here
+    add-p
+    loop-less
+    loop-again
+    returns)
