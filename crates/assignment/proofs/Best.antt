@@ -1,5 +1,5 @@
 -- Where the largest of the first i numbers stands first, one number more.
-use Prim.Native.Nat.{ℕ, zero, suc, _+_, _≤_, _<_, max}
+use Prim.Native.Nat.{ℕ, suc, _+_, _≤_, _<_, max}
 use mathlib.Core.Path.{_≡_, refl, sym, ap, _∙_}
 use mathlib.Core.List.{List, [], _∷_, _++_}
 use native.Mathlib.Omega.{arith}
@@ -37,6 +37,7 @@ pub record Best (xs : List ℕ) (best i : ℕ) : Type 0 where
   pub within : best < i
   pub is : best ≡ atMost (take i xs)
 
+-- the first of one
 alone : (xs : List ℕ) → _≡_ {A = ℕ} 0 (atMost (take 1 xs))
 alone [] = refl
 alone (x ∷ xs) = rw (le-leb 0 x (omega arith))
@@ -50,6 +51,7 @@ pub last : (xs : List ℕ) (best i : ℕ) → Best xs best i → length xs ≤ i
 last xs best i b h = b .is ∙ ap atMost (take-all i xs h)
 
 module _ (xs : List ℕ) (best i : ℕ) (b : Best xs best i) (h : i < length xs) where
+  -- the largest so far stands there
   at-best : getD xs best 0 ≡ most (take i xs)
   at-best =
       sym (getD-take i xs best 0 (b .within))

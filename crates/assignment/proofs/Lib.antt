@@ -1,5 +1,6 @@
+pub mod Examples
+pub mod Load
 pub mod Best
 pub mod Cutting
-pub mod Placing
-pub mod Load
-pub mod Examples
+pub mod Steps
+pub mod Ordered

@@ -1,5 +1,5 @@
 pub mod Passes
 pub mod Load
-pub mod Placing
+pub mod Assign
 pub mod Movers
 pub mod Structure

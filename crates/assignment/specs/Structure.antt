@@ -2,7 +2,6 @@
 use Prim.Native.Nat.{ℕ, _≤_, _<_}
 use mathlib.Core.Path.{_≡_}
 use mathlib.Core.List.{List, map}
-use lib.ListN.{getD}
 use Rattle.lists.specs.Lists.{sum}
 use Rattle.lists.specs.Rows.{count, column, top}
 use Rattle.assignment.specs.Movers.{fixedOn, movesOn, lower}

@@ -1,14 +1,14 @@
 // The two passes of assignment: which core has how much of which task.
 use ordering::Order;
+use ordering::order_of;
 use units::limits::CORES;
 use units::limits::TASKS;
 use units::share::Share;
 ghost use mathlib.Core.Path.{_≡_};
 ghost use Rattle.lists.specs.Lists.{atMost};
-ghost use Rattle.units.specs.Limits.{coresLimit, tasksLimit};
 ghost use Rattle.units.specs.Units.{nums};
-ghost use Rattle.assignment.specs.Passes.{cut as cutOf, rest as restOf, blank, sharesOf, rowsOf};
-ghost use Rattle.assignment.specs.Placing.{placeTwo, place, from, Among};
+ghost use Rattle.assignment.specs.Passes.{cut as cutOf, rest as restOf, sharesOf, rowsOf};
+ghost use Rattle.assignment.specs.Assign.{assignTwo, assign, from, Among};
 
 // A number for each core: one task's shares, or the cores' room.
 pub struct Row {
@@ -67,7 +67,7 @@ fn pass_two(
     rows: [Row; TASKS],
 ) -> [Row; TASKS]
     requires { ⌜ Among order ⌝ }
-    ensures { λ r. ⌜ rowsOf r ≡ placeTwo (nums weights) (from order k) (nums (room .shares)) (rowsOf rows) ⌝ }
+    ensures { λ r. ⌜ rowsOf r ≡ assignTwo (nums weights) (from order k) (nums (room .shares)) (rowsOf rows) ⌝ }
 {
     let mut table = rows;
     let mut left = room;
@@ -87,7 +87,7 @@ fn pass_two(
 // Pass one over the tasks in order, and pass two from the first misfit on.
 fn pass_one(order: Order, weights: [Share; TASKS], room: Row, rows: [Row; TASKS]) -> [Row; TASKS]
     requires { ⌜ Among order ⌝ }
-    ensures { λ r. ⌜ rowsOf r ≡ place (nums weights) (from order 0) (nums (room .shares)) (rowsOf rows) ⌝ }
+    ensures { λ r. ⌜ rowsOf r ≡ assign (nums weights) (from order 0) (nums (room .shares)) (rowsOf rows) ⌝ }
 {
     let mut table = rows;
     let mut left = room;
@@ -108,4 +108,15 @@ fn pass_one(order: Order, weights: [Share; TASKS], room: Row, rows: [Row; TASKS]
         i += 1;
     }
     table
+}
+
+// The shares of each task on each core, for the tasks' weights and the cores' room.
+pub fn shares_of(weights: [Share; TASKS], room: Row) -> [Row; TASKS]
+    ensures { λ r. ⌜ rowsOf r ≡ sharesOf (nums weights) (nums (room .shares)) ⌝ }
+{
+    let order = order_of(weights);
+    let blank = [Row {
+        shares: [Share::EMPTY; CORES],
+    }; TASKS];
+    pass_one(order, weights, room, blank)
 }

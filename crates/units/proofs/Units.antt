@@ -4,11 +4,20 @@ use mathlib.Core.Path.{_≡_, refl, sym, ap, _∙_}
 use mathlib.Core.List.{List, [], _∷_, map}
 use lib.ListN.{length, getD, set, replicate, length-map}
 use Rattle.units.specs.declared.share.Share.{Share}
+use Rattle.units.proofs.share.Share.{the-field}
 use Rattle.units.specs.Units.{share, nums, units}
 
 pub nums-length : (ss : List Share) → length (nums ss) ≡ length ss
 nums-length [] = refl
 nums-length (s ∷ ss) = ap suc (nums-length ss)
+
+-- the length of an array's numbers
+pub nums-long : (ss : List Share) (n : ℕ) → length ss ≡ n → length (nums ss) ≡ n
+nums-long ss n e = nums-length ss ∙ e
+
+-- and where the array is a struct's field
+pub field-long : (ss : List Share) (n : ℕ) → length (map (the-field .into) ss) ≡ n → length (nums ss) ≡ n
+field-long ss n e = nums-length ss ∙ sym (length-map ss (the-field .into)) ∙ e
 
 pub nums-at : (ss : List Share) (i : ℕ) → getD (nums ss) i 0 ≡ getD ss i (share 0) .0
 nums-at [] i = refl

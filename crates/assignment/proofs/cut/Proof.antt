@@ -1,18 +1,13 @@
-use Prim.Native.Nat.{_≤_, _<_, _-_}
-use mathlib.Core.Path.{_≡_, refl, sym, ap, _∙_}
+use Prim.Native.Nat.{_-_}
+use mathlib.Core.Path.{refl}
 use native.Mathlib.Omega.{arith}
 use borrow.Author.Needs.{needs}
-use lib.ListN.{length, length-map}
 use Rattle.units.specs.Limits.{coresLimit}
 use Rattle.units.specs.Units.{nums}
-use Rattle.units.proofs.Units.{nums-length, nums-at, nums-set}
+use Rattle.units.proofs.Units.{field-long, nums-at, nums-set}
 use Rattle.assignment.proofs.Cutting.{Cutting, start, next, done}
 use Rattle.assignment.proofs.cut.Statement.{statement}
 use Rattle.assignment.proofs.cut.Tie as tie
-use Rattle.assignment.proofs.cut.Reads as reads
-use Rattle.assignment.proofs.cut.Lts as lts
-use Rattle.units.proofs.share.Share.rest.Reads as rest-reads
-use Rattle.units.proofs.share.Share.smaller.Reads as smaller-reads
 
 abbrev Inv-loop : tie.InvT-loop
 Inv-loop row₀ left₀ need₀ p₀ row left need p = Cutting (need₀ .0) (nums left₀) (nums row) (nums left) (need .0) p
@@ -21,7 +16,7 @@ abbrev μ-loop : tie.MeasureT-loop
 μ-loop row₀ left₀ need₀ p₀ row left need p = coresLimit - p
 
 loop-holds : tie.Need-loop-holds Inv-loop μ-loop
-loop-holds c = start _ _ _ refl (nums-length (c .before .args .room .shares) ∙ sym (length-map (c .before .args .room .shares) _) ∙ c .before .good .1 .0 .1 .1 .0 .1 .0 .1)
+loop-holds c = start _ _ _ refl (search (needs, field-long))
 
 mul-have : tie.Need-mul-have Inv-loop μ-loop
 mul-have c = search needs
@@ -59,8 +54,8 @@ loop-less c = search needs
 loop-again : tie.Need-loop-again Inv-loop μ-loop
 loop-again c =
     let at = c .before .before .before .before .before .loop in
-    rw (nums-set (at .row), nums-set (at .left))
-    (next _ _ _ _ _ _ _ _ _ (at .inv) (omega arith) (omega (arith, nums-at (at .left) (at .p))) (omega (arith, nums-at (at .left) (at .p))) (omega (arith, nums-at (at .left) (at .p))))
+    let have = nums-at (at .left) (at .p) in
+    rw (nums-set (at .row), nums-set (at .left)) (next _ _ _ _ _ _ _ _ _ (at .inv) (omega arith) (omega arith) (omega arith) (omega arith))
 
 returns : tie.Need-returns Inv-loop μ-loop
 returns c = done _ _ _ _ _ _ (c .before .loop .inv) (omega arith)

@@ -1,41 +1,35 @@
 use Prim.Native.Nat.{_<_, _-_}
 use mathlib.Core.Path.{_≡_, refl, sym, ap, _∙_}
 use native.Mathlib.Omega.{arith}
-use lib.ListN.{length, getD, length-map, length-set}
+use lib.ListN.{length, getD, length-set}
 use Rattle.units.specs.Limits.{coresLimit, tasksLimit}
 use Rattle.units.specs.Units.{nums}
-use Rattle.units.proofs.Units.{nums-length, nums-at, nums-set}
-use Rattle.assignment.specs.Passes.{rowsOf, blank}
-use Rattle.assignment.specs.Placing.{place, from}
-use Rattle.assignment.proofs.Placing.{core-low, rows-set, one-next, misfit, one-end}
+use Rattle.units.proofs.Units.{field-long, nums-at, nums-set}
+use Rattle.assignment.specs.Passes.{rowsOf}
+use Rattle.assignment.specs.Assign.{assign, from}
+use Rattle.assignment.proofs.Steps.{core-low, rows-set, one-next, misfit, one-end}
 use borrow.Author.Needs.{needs}
 use Rattle.assignment.proofs.pass_one.Statement.{statement}
 use Rattle.assignment.proofs.pass_one.Tie as tie
-use Rattle.assignment.proofs.pass_one.Reads as reads
-use Rattle.assignment.proofs.pass_one.Lts as lts
-use Rattle.assignment.proofs.pass_two.Reads as pass-two-reads
-use Rattle.assignment.proofs.roomiest.Reads as roomiest-reads
-use Rattle.units.proofs.share.Share.rest.Reads as rest-reads
 
 abbrev Inv-loop : tie.InvT-loop
 Inv-loop order weights table₀ left₀ i₀ table left i =
-    (length (order .tasks) ≡ tasksLimit)
-    × (length (nums (left .shares)) ≡ coresLimit)
-    × (place (nums weights) (from order i) (nums (left .shares)) (rowsOf table) ≡ place (nums weights) (from order i₀) (nums (left₀ .shares)) (rowsOf table₀))
+    (length (nums (left .shares)) ≡ coresLimit)
+    × (assign (nums weights) (from order i) (nums (left .shares)) (rowsOf table) ≡ assign (nums weights) (from order i₀) (nums (left₀ .shares)) (rowsOf table₀))
 
 abbrev μ-loop : tie.MeasureT-loop
 μ-loop order weights table₀ left₀ i₀ table left i = order .count - i
 
+-- the task is one of the box's
 task-low : (c : tie.After-t Inv-loop μ-loop) → getD (c .before .before .before .args .t1 .tasks) (c .before .before .loop .i) 0 < tasksLimit
 task-low c = c .before .before .before .pre .low (c .before .before .loop .i) (omega arith)
 
+-- and so is the core
 roomiest-low : (c : tie.After-roomiest Inv-loop μ-loop) → c .roomiest .result < coresLimit
-roomiest-low c = core-low (nums (c .before .before .before .before .loop .left .shares)) _ (c .before .before .before .before .loop .inv .1) (c .roomiest .ensures)
+roomiest-low c = core-low (nums (c .before .before .before .before .loop .left .shares)) _ (c .before .before .before .before .loop .inv .0) (c .roomiest .ensures)
 
 loop-holds : tie.Need-loop-holds Inv-loop μ-loop
-loop-holds c =
-    let s = c .args .room .shares in
-    (search needs, nums-length s ∙ sym (length-map s _) ∙ c .good .1 .1 .0 .1 .1 .0 .1 .0 .1, refl)
+loop-holds c = (search (needs, field-long), refl)
 
 mul-t : tie.Need-mul-t Inv-loop μ-loop
 mul-t c = search needs
@@ -68,8 +62,8 @@ returns c =
     let most = c .before .before .before .before .before .roomiest in
     let have = nums-at (at .left .shares) (most .result) in
     c .pass-two .ensures
-    ∙ misfit (s .args .t1) (s .pre) (at .inv .0) (at .i) (nums (s .args .t2)) _ _ _ _ _ (omega arith) refl (sym (nums-at (s .args .t2) _)) (most .ensures) (omega arith)
-    ∙ at .inv .2
+    ∙ misfit (s .args .t1) (s .pre) (at .i) (nums (s .args .t2)) _ _ _ _ _ (omega arith) refl (sym (nums-at (s .args .t2) _)) (most .ensures) (omega arith)
+    ∙ at .inv .1
 
 mul-row : tie.Need-mul-row Inv-loop μ-loop
 mul-row c = omega (arith, roomiest-low (c .before .before .before .before))
@@ -104,17 +98,16 @@ loop-again c =
     let at = c .before .before .before .before .before .before .before .before .before .loop in
     let most = c .before .before .before .before .before .roomiest in
     let have = nums-at (at .left .shares) (most .result) in (
-      at .inv .0,
-      ap length (nums-set (at .left .shares) _ _) ∙ length-set (nums (at .left .shares)) _ _ ∙ at .inv .1,
+      ap length (nums-set (at .left .shares) _ _) ∙ length-set (nums (at .left .shares)) _ _ ∙ at .inv .0,
       rw (rows-set (at .table), nums-set (at .left .shares), nums-set)
-          (one-next (s .args .t1) (s .pre) (at .inv .0) (at .i) (nums (s .args .t2)) _ _ _ _ _ _ (at .inv .1) (omega arith) refl (sym (nums-at (s .args .t2) _)) (most .ensures) (omega arith) (omega arith) ∙ at .inv .2),
+          (one-next (s .args .t1) (s .pre) (at .i) (nums (s .args .t2)) _ _ _ _ _ _ (at .inv .0) (omega arith) refl (sym (nums-at (s .args .t2) _)) (most .ensures) (omega arith) (omega arith) ∙ at .inv .1),
     )
 
 returns-2 : tie.Need-returns-2 Inv-loop μ-loop
 returns-2 c =
     let s = c .before .before in
     let at = c .before .loop in
-    sym (one-end (s .args .t1) (s .pre) (at .inv .0) (at .i) (nums (s .args .t2)) _ _ (omega arith)) ∙ at .inv .2
+    sym (one-end (s .args .t1) (s .pre) (at .i) (nums (s .args .t2)) _ _ (omega arith)) ∙ at .inv .1
 
 pub pass-one-spec : {M : Type 1} → statement M
 pass-one-spec =

@@ -1,17 +1,15 @@
 use Prim.Native.Nat.{_≤_, _-_}
-use mathlib.Core.Path.{_≡_, sym, _∙_}
+use mathlib.Core.Path.{_≡_}
 use mathlib.Core.Logic.{⊎-elim}
 use native.Mathlib.Omega.{arith}
 use borrow.Author.Needs.{needs}
-use lib.ListN.{length, length-map}
+use lib.ListN.{length}
 use Rattle.units.specs.Limits.{coresLimit}
 use Rattle.units.specs.Units.{nums}
-use Rattle.units.proofs.Units.{nums-length, nums-at}
+use Rattle.units.proofs.Units.{field-long, nums-at}
 use Rattle.assignment.proofs.Best.{Best, first, better, kept, last}
 use Rattle.assignment.proofs.roomiest.Statement.{statement}
 use Rattle.assignment.proofs.roomiest.Tie as tie
-use Rattle.assignment.proofs.roomiest.Reads as reads
-use Rattle.assignment.proofs.roomiest.Lts as lts
 
 abbrev Inv-loop : tie.InvT-loop
 Inv-loop room best₀ p₀ best p = (length (nums (room .shares)) ≡ coresLimit) × (p ≤ coresLimit) × Best (nums (room .shares)) best p
@@ -20,9 +18,7 @@ abbrev μ-loop : tie.MeasureT-loop
 μ-loop room best₀ p₀ best p = coresLimit - p
 
 loop-holds : tie.Need-loop-holds Inv-loop μ-loop
-loop-holds c =
-    let s = c .args .t1 .shares in
-    (nums-length s ∙ sym (length-map s _) ∙ c .good .0 .1 .1 .0 .1 .0 .1, omega arith, first _)
+loop-holds c = (search (needs, field-long), omega arith, first _)
 
 mul-most : tie.Need-mul-most Inv-loop μ-loop
 mul-most c = search needs

@@ -1,20 +1,20 @@
--- Placing tasks that stand in order, one task less.
+-- Both passes over tasks that stand in order: what is left to do gives the same table, one task less.
 use Prim.Native.Nat.{ℕ, zero, suc, _+_, _-_, _≤_, _<_}
-use mathlib.Core.Path.{_≡_, refl, sym, ap, _∙_}
+use mathlib.Core.Path.{_≡_, refl, ap, _∙_}
 use mathlib.Core.List.{List, [], _∷_}
 use native.Mathlib.Omega.{arith}
 use native.Mathlib.Numerals.{add-one}
-use lib.ListN.{length, getD, take, drop, set, drop-of-length-le}
+use lib.ListN.{length, getD, take, set, drop-of-length-le}
 use lib.Seq.{drop-cons, getD-take, length-take-le}
 use borrow.Author.Tests.{le-leb, lt-leb}
 use Rattle.lists.specs.Lists.{zeros, most, atMost}
 use Rattle.lists.proofs.Lists.{atMost-is, atMost-lt}
-use Rattle.units.specs.Limits.{coresLimit, tasksLimit}
+use Rattle.units.specs.Limits.{coresLimit}
 use Rattle.units.specs.Units.{nums}
 use Rattle.ordering.specs.declared.Order.{Order}
 use Rattle.assignment.specs.declared.Row.{Row}
-use Rattle.assignment.specs.Passes.{cut, rest, passTwo, passes, rowsOf}
-use Rattle.assignment.specs.Placing.{placeTwo, place, from, Among}
+use Rattle.assignment.specs.Passes.{cut, rest, rowsOf}
+use Rattle.assignment.specs.Assign.{assignTwo, assign, from, Among}
 
 -- a row stored
 pub rows-set : (rs : List Row) (t : ℕ) (r : Row) → rowsOf (set rs t r) ≡ set (rowsOf rs) t (nums (r .shares))
@@ -26,39 +26,46 @@ rows-set (x ∷ rs) (suc t) r = ap (λ (ys : List (List ℕ)). nums (x .shares) 
 pub core-low : (room : List ℕ) (p : ℕ) → length room ≡ coresLimit → p ≡ atMost room → p < coresLimit
 core-low room p l e = omega (arith, atMost-lt room (omega arith))
 
-module _ (o : Order) (a : Among o) (l : length (o .tasks) ≡ tasksLimit) (i : ℕ) where
+-- its room is the most
+core-room : (room : List ℕ) (p : ℕ) → p ≡ atMost room → getD room p 0 ≡ most room
+core-room room p e = ap (λ (q : ℕ). getD room q 0) e ∙ atMost-is room
+
+module _ (o : Order) (a : Among o) (i : ℕ) where
+  -- the order has as many tasks as it says
+  tasks-long : length (take (o .count) (o .tasks)) ≡ o .count
+  tasks-long = length-take-le (o .count) (o .tasks) (omega (arith, a .long, a .few))
+
   -- the next task, and those after it
-  pub from-next : i < o .count → from o i ≡ getD (o .tasks) i 0 ∷ from o (i + 1)
+  from-next : i < o .count → from o i ≡ getD (o .tasks) i 0 ∷ from o (i + 1)
   from-next h =
-      let all = length-take-le (o .count) (o .tasks) (omega (arith, a .few)) in
-      drop-cons (take (o .count) (o .tasks)) i 0 (omega arith) ∙ rw (add-one i, getD-take (o .count) (o .tasks) i 0 h)
+      drop-cons (take (o .count) (o .tasks)) i 0 (omega (arith, tasks-long)) ∙ rw (add-one i, getD-take (o .count) (o .tasks) i 0 h)
 
   -- no task is left
-  pub from-end : o .count ≤ i → from o i ≡ []
-  from-end h = drop-of-length-le (take (o .count) (o .tasks)) {i = i} (omega (arith, length-take-le (o .count) (o .tasks) (omega (arith, a .few))))
+  from-end : o .count ≤ i → from o i ≡ []
+  from-end h = drop-of-length-le (take (o .count) (o .tasks)) {i = i} (omega (arith, tasks-long))
 
   module _ (ws room : List ℕ) (tab : List (List ℕ)) where
     -- the next task in pass two
     pub two-next : (t w : ℕ) → i < o .count → t ≡ getD (o .tasks) i 0 → w ≡ getD ws t 0
-        → placeTwo ws (from o (i + 1)) (rest w room) (set tab t (cut w room)) ≡ placeTwo ws (from o i) room tab
+        → assignTwo ws (from o (i + 1)) (rest w room) (set tab t (cut w room)) ≡ assignTwo ws (from o i) room tab
     two-next t w h e f = rw (from-next h, f, e)
 
     -- no task is left for it
-    pub two-end : o .count ≤ i → placeTwo ws (from o i) room tab ≡ tab
+    pub two-end : o .count ≤ i → assignTwo ws (from o i) room tab ≡ tab
     two-end h = rw (from-end h)
 
     -- the next task in pass one: it fits on the roomiest core
     pub one-next : (t w p v : ℕ) → length room ≡ coresLimit → i < o .count → t ≡ getD (o .tasks) i 0 → w ≡ getD ws t 0 → p ≡ atMost room → w ≤ getD room p 0
-        → v ≡ getD room p 0 - w → place ws (from o (i + 1)) (set room p v) (set tab t (set (zeros coresLimit) p w)) ≡ place ws (from o i) room tab
+        → v ≡ getD room p 0 - w → assign ws (from o (i + 1)) (set room p v) (set tab t (set (zeros coresLimit) p w)) ≡ assign ws (from o i) room tab
     one-next t w p v k h e f g fits d =
-        rw (from-next h, ← e, ← f, le-leb w (most room) (omega (arith, ap (λ (q : ℕ). getD room q 0) g, atMost-is room)), k, ← g, d)
+        rw (from-next h, ← e, ← f, le-leb w (most room) (omega (arith, core-room room p g)), k, ← g, d)
 
     -- it does not fit: pass two from here on
     pub misfit : (t w p : ℕ) → i < o .count → t ≡ getD (o .tasks) i 0 → w ≡ getD ws t 0 → p ≡ atMost room → getD room p 0 < w
-        → placeTwo ws (from o i) room tab ≡ place ws (from o i) room tab
+        → assignTwo ws (from o i) room tab ≡ assign ws (from o i) room tab
     misfit t w p h e f g over =
-        rw (from-next h, ← e, ← f, lt-leb w (most room) (omega (arith, ap (λ (q : ℕ). getD room q 0) g, atMost-is room)))
+        rw (from-next h, ← e, ← f, lt-leb w (most room) (omega (arith, core-room room p g)))
 
     -- no task is left
-    pub one-end : o .count ≤ i → place ws (from o i) room tab ≡ tab
+    pub one-end : o .count ≤ i → assign ws (from o i) room tab ≡ tab
     one-end h = rw (from-end h)
