@@ -21,7 +21,7 @@ use Rattle.admission.specs.Weight.{weights, Weighable}
 use Rattle.admission.specs.Refusals.{refusal, taken, _orElse_, inputTest, weightsTest}
 use Rattle.admission.specs.Admission.{periodTest, refusalOf, refusedWith, takenWith, admissionOf}
 use Rattle.admission.proofs.First.{decides, leaves}
-use Rattle.admission.proofs.Kept.{Kept, Fine, kept}
+use Rattle.admission.proofs.Kept.{Kept, Fine, kept, neither}
 
 -- a refusal is answered with it
 pub answered : (m : ℕ) (xs : List ℕ) (f : Refusal) → f ≡ refusalOf m xs → (f .no ≡ 0 → ⊥) → refusedWith f ≡ admissionOf m xs
@@ -33,6 +33,15 @@ answered m xs f e n =
 pub input-decides : (m : ℕ) (xs : List ℕ) (f : Refusal) → f ≡ inputTest m xs → (f .no ≡ 0 → ⊥) → f ≡ refusalOf m xs
 unfolding refusalOf
 input-decides m xs f e n = decides f (inputTest m xs) (periodTest (periodOf (periods xs)) orElse weightsTest m (common (periods xs)) (weights (common (periods xs)) xs)) e n
+
+-- a table that is taken passes all tests
+pub passed : (m : ℕ) (xs : List ℕ) → refusalOf m xs .no ≡ 0
+    → (inputTest m xs .no ≡ 0) × (periodTest (periodOf (periods xs)) .no ≡ 0) × (weightsTest m (common (periods xs)) (weights (common (periods xs)) xs) .no ≡ 0)
+unfolding refusalOf
+passed m xs e =
+    let one = neither (inputTest m xs) (periodTest (periodOf (periods xs)) orElse weightsTest m (common (periods xs)) (weights (common (periods xs)) xs)) e in
+    let two = neither (periodTest (periodOf (periods xs))) (weightsTest m (common (periods xs)) (weights (common (periods xs)) xs)) (one .1) in
+    (one .0, two .0, two .1)
 
 module _ (m : ℕ) (xs : List ℕ) (ok : inputTest m xs .no ≡ 0) where
   -- 5, naming the task

@@ -35,11 +35,11 @@ pub step : (l : ℕ) (xs ws : List ℕ) (s k w : ℕ) → Weighing l xs ws s k �
     → w ≡ weight l (getD xs (2 * k) 0) (getD xs (2 * k + 1) 0) → w ≤ l → Weighing l xs (set ws k w) (s + w) (k + 1)
 step l xs ws s k w g h b e m =
     let here : weights l (drop (2 * k) xs) ≡ w ∷ weights l (drop (2 * (k + 1)) xs) = rw (pair-drop xs k h, e) in
-    record
-    { below = omega arith
-    ; filled = next 0 tasksLimit (weights l xs) ws (weights l (drop (2 * (k + 1)) xs)) k w (rw here at (g .filled)) b
-    ; total = omega (arith, g .total, ap sum here)
-    ; small = omega (arith, g .small)
+    record {
+      below = omega arith;
+      filled = next 0 tasksLimit (weights l xs) ws (weights l (drop (2 * (k + 1)) xs)) k w (rw here at (g .filled)) b;
+      total = omega (arith, g .total, ap sum here);
+      small = omega (arith, g .small);
     }
 
 -- the sum stays small

@@ -8,8 +8,7 @@ ghost use Rattle.units.specs.Units.{nums};
 ghost use Rattle.assignment.specs.Movers.{moves as movesOf, firstCore};
 
 // How many shares are positive.
-pub fn parts_of(shares: [Share; CORES]) -> usize
-{
+pub fn parts_of(shares: [Share; CORES]) -> usize {
     let mut parts: usize = 0;
     let mut p: usize = 0;
     while p < CORES {
@@ -44,8 +43,7 @@ pub struct Movers {
 }
 
 // The movers with one line more in front.
-fn with_line(movers: Movers, line: Line) -> Movers
-{
+fn with_line(movers: Movers, line: Line) -> Movers {
     let shares = line.shares;
     if parts_of(shares) < 2 {
         return movers;
@@ -72,8 +70,7 @@ fn with_line(movers: Movers, line: Line) -> Movers
 }
 
 // The movers of each core.
-pub fn movers_of(lines: [Line; TASKS]) -> Movers
-{
+pub fn movers_of(lines: [Line; TASKS]) -> Movers {
     let mut movers = Movers {
         upper: [Line::EMPTY; CORES],
         lower: [Line::EMPTY; CORES],

@@ -28,10 +28,10 @@ next d n whole now todo k x f h =
     let m : n - k ≡ suc (n - suc k) = omega arith in
     let rest : d ∷ replicate (n - suc k) d ≡ drop k now = sym (f .left ∙ ap (λ (j : ℕ). replicate j d) m) in
     let tail : replicate (n - suc k) d ≡ drop (suc k) now = cc in
-    record
-    { long = length-set now k x ∙ f .long
-    ; done = rw (add-one k, take-suc-set now k x (omega (arith, f .long)), append-assoc (take k now) (x ∷ []) todo) (f .done)
-    ; left = rw (add-one k, drop-set-lt (suc k) now k x (omega arith)) (sym tail)
+    record {
+      long = length-set now k x ∙ f .long;
+      done = rw (add-one k, take-suc-set now k x (omega (arith, f .long)), append-assoc (take k now) (x ∷ []) todo) (f .done);
+      left = rw (add-one k, drop-set-lt (suc k) now k x (omega arith)) (sym tail);
     }
 
 -- at the end the whole stands, and the default after it

@@ -40,8 +40,8 @@ pub step : (xs ws : List ℕ) (rows : List (List ℕ)) (lns : List Line) (k : �
     → Filling xs ws rows (set lns k (line (getD xs (2 * k) 0) (getD xs (2 * k + 1) 0) (getD ws k 0) (getD rows k []))) (k + 1)
 step xs ws rows lns k f h a b m =
     let here : linesOf (drop (2 * k) xs) (drop k ws) (drop k rows)
-        ≡ line (getD xs (2 * k) 0) (getD xs (2 * k + 1) 0) (getD ws k 0) (getD rows k []) ∷ linesOf (drop (2 * (k + 1)) xs) (drop (k + 1) ws) (drop (k + 1) rows) =
-        rw (pair-drop xs k h, drop-cons ws k 0 a, drop-cons rows k [] b, ← (add-one k)) in
+    ≡ line (getD xs (2 * k) 0) (getD xs (2 * k + 1) 0) (getD ws k 0) (getD rows k []) ∷ linesOf (drop (2 * (k + 1)) xs) (drop (k + 1) ws) (drop (k + 1) rows) =
+    rw (pair-drop xs k h, drop-cons ws k 0 a, drop-cons rows k [] b, ← (add-one k)) in
     next emptyLine tasksLimit (linesOf xs ws rows) lns (linesOf (drop (2 * (k + 1)) xs) (drop (k + 1) ws) (drop (k + 1) rows)) k
     (line (getD xs (2 * k) 0) (getD xs (2 * k + 1) 0) (getD ws k 0) (getD rows k [])) (rw here at f) m
 

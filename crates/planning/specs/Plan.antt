@@ -47,12 +47,12 @@ emptyPlan = record { cores = 0; count = 0; common = 0; lines = replicate tasksLi
 
 -- the plan of a table that is taken: m cores, common period l, and a weight for each of sixty-four tasks
 unfoldable pub planFor : ℕ → ℕ → List ℕ → List ℕ → Plan
-planFor m l ws xs = record
-  { cores = m
-  ; count = length xs / 2
-  ; common = l
-  ; lines = paddedLines (linesOf xs ws (sharesOf ws (rooms m l)))
-  }
+planFor m l ws xs = record {
+  cores = m;
+  count = length xs / 2;
+  common = l;
+  lines = paddedLines (linesOf xs ws (sharesOf ws (rooms m l)));
+}
 
 -- a refusal and the empty plan
 unfoldable pub refusedPlan : Refusal → Planned

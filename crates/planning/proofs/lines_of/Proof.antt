@@ -12,8 +12,6 @@ use Prim.Native.Nat.{ℕ, _-_, _/_, _≤_}
 use mathlib.Core.Path.{_≡_, refl, sym, ap, _∙_}
 use Rattle.planning.proofs.lines_of.Statement.{statement}
 use Rattle.planning.proofs.lines_of.Tie as tie
-use Rattle.planning.proofs.lines_of.Reads as reads
-use Rattle.planning.proofs.lines_of.Lts as lts
 
 abbrev Inv-loop : tie.InvT-loop
 Inv-loop table weights rows n lines₀ k₀ lines k = (n ≡ length table / 2) × (k ≤ n) × Filling table (nums weights) (rowsOf rows) lines k
@@ -77,20 +75,21 @@ loop-less : tie.Need-loop-less Inv-loop μ-loop
 loop-less c = omega arith
 
 loop-again : tie.Need-loop-again Inv-loop μ-loop
-loop-again c = 
+loop-again c =
     let l = c .before .before .before .before .before .before .loop in
     let s = c .before .before .before .before .before .before .before in
     let xs = s .args .table .now in
     let lw : length (s .args .t2) ≡ tasksLimit = search needs in
-    let lr : length (s .args .t3) ≡ tasksLimit = search needs in
-    ( refl
-    , omega arith
-    , rw (← (line-at (getD xs (2 * l .k) 0) (getD xs (2 * l .k + 1) 0) (s .args .t2) (s .args .t3) (l .k)))
-    (step xs (nums (s .args .t2)) (rowsOf (s .args .t3)) (l .lines) (l .k) (l .inv .2) (omega arith)
-    (omega (arith, nums-length (s .args .t2), s .pre)) (omega (arith, rows-length (s .args .t3), s .pre)) (omega (arith, s .pre))))
+    let lr : length (s .args .t3) ≡ tasksLimit = search needs in (
+      refl,
+      omega arith,
+      rw (← (line-at (getD xs (2 * l .k) 0) (getD xs (2 * l .k + 1) 0) (s .args .t2) (s .args .t3) (l .k)))
+          (step xs (nums (s .args .t2)) (rowsOf (s .args .t3)) (l .lines) (l .k) (l .inv .2) (omega arith)
+          (omega (arith, nums-length (s .args .t2), s .pre)) (omega (arith, rows-length (s .args .t3), s .pre)) (omega (arith, s .pre))),
+    )
 
 returns : tie.Need-returns Inv-loop μ-loop
-returns c = 
+returns c =
     let l = c .before .loop in
     let s = c .before .before in
     finish (s .args .table .now) (nums (s .args .t2)) (rowsOf (s .args .t3)) (l .lines) (l .k) (l .inv .2) (omega arith) (omega (arith, s .pre))

@@ -9,8 +9,6 @@ use Prim.Native.Nat.{ℕ, _-_, _≤_}
 use mathlib.Core.Path.{_≡_, refl, sym, ap, _∙_}
 use Rattle.planning.proofs.rooms_of.Statement.{statement}
 use Rattle.planning.proofs.rooms_of.Tie as tie
-use Rattle.planning.proofs.rooms_of.Reads as reads
-use Rattle.planning.proofs.rooms_of.Lts as lts
 
 abbrev Inv-loop : tie.InvT-loop
 Inv-loop cores common room₀ p₀ room p = (p ≤ cores) × (nums room ≡ rooms p common)
@@ -34,15 +32,16 @@ loop-less : tie.Need-loop-less Inv-loop μ-loop
 loop-less c = omega arith
 
 loop-again : tie.Need-loop-again Inv-loop μ-loop
-loop-again c = 
+loop-again c =
     let l = c .before .loop in
-    let s = c .before .before in
-    ( omega arith
-    , nums-set (l .room) (l .p) (record { 0 = s .args .common }) ∙ ap (λ (xs : List ℕ). set xs (l .p) (s .args .common)) (l .inv .1)
-    ∙ rooms-more (s .args .common) (l .p) (omega (arith, s .pre)))
+    let s = c .before .before in (
+      omega arith,
+      nums-set (l .room) (l .p) (record { 0 = s .args .common }) ∙ ap (λ (xs : List ℕ). set xs (l .p) (s .args .common)) (l .inv .1)
+          ∙ rooms-more (s .args .common) (l .p) (omega (arith, s .pre)),
+    )
 
 returns : tie.Need-returns Inv-loop μ-loop
-returns c = 
+returns c =
     let e : c .before .loop .p ≡ c .before .before .args .cores = omega arith in
     c .before .loop .inv .1 ∙ ap (λ (p : ℕ). rooms p (c .before .before .args .common)) e
 
