@@ -1,0 +1,1 @@
+// What a plan that planning draws keeps: theorems in proofs/.
