@@ -1,0 +1,4 @@
+// Soundness of a plan: every rule, for any numbers whatever.
+pub mod lines;
+pub mod plan;
+pub mod tally;
