@@ -1,0 +1,66 @@
+-- Look: one core's choice.
+use Prim.Native.Nat.{ℕ, zero, suc, _+_, _-_}
+use mathlib.Core.Bool.{Bool, true, false, cond, _&&_, _||_}
+use lib.Dec.{ltb, eqb}
+use Rattle.units.specs.Limits.{tasksLimit}
+use Rattle.units.specs.Units.{ticks}
+use Rattle.planning.specs.declared.Line.{Line}
+use Rattle.planning.specs.Plan.{rowOf}
+use Rattle.assignment.specs.Movers.{upper, lower}
+use Rattle.dispatch.specs.declared.State.{State}
+use Rattle.dispatch.specs.declared.Record.{Record}
+use Rattle.dispatch.specs.declared.look.Side.{Side}
+use Rattle.dispatch.specs.declared.look.Side.the-variants.{Upper, Lower}
+use Rattle.dispatch.specs.declared.look.Choice.{Choice}
+use Rattle.dispatch.specs.declared.look.Choice.the-variants.{Idle, Fixed, Mover}
+use Rattle.dispatch.specs.declared.look.Best.{Best}
+use Rattle.dispatch.specs.declared.look.Looked.{Looked}
+use Rattle.dispatch.specs.Record.{lineAt, stateAt, runAt}
+use Rattle.dispatch.specs.Refusals.{lookNo}
+
+-- the deadline of a task's oldest unfinished run
+abbrev pub deadlineOf : State → ℕ
+deadlineOf st = runAt st 0 .deadline .0
+
+-- only a task's oldest unfinished run can be chosen, on its own core k, from 1
+abbrev pub waits : State → ℕ → Bool
+waits st k = ltb 0 (st .live) && eqb (runAt st 0 .core) k
+
+-- who goes first, by the least key: an upper mover, then a lower one, then fixed tasks by earliest deadline
+abbrev pub keyOf : Line → State → ℕ → ℕ
+keyOf ln st k = cond (upper (k - 1) (rowOf ln)) 0 (cond (lower (k - 1) (rowOf ln)) 1 (2 + deadlineOf st))
+
+-- the better of the best task so far and task i, from 1: lowest task number at a tie
+abbrev pub better : Best → ℕ → Line → State → ℕ → Best
+better b i ln st k =
+    cond (waits st k && (eqb (b .task) 0 || ltb (keyOf ln st k) (b .key)))
+    (record { task = i; key = keyOf ln st k })
+    b
+
+-- the best of the first n tasks
+unfoldable pub bestOf : Record → ℕ → ℕ → Best
+bestOf r k zero = record { task = 0; key = 0 }
+bestOf r k (suc n) = better (bestOf r k n) (suc n) (lineAt r n) (stateAt r n) k
+
+-- the choice: idle, a mover with its deadline, upper or lower, or a fixed task with its deadline
+unfoldable pub choiceFor : Record → Best → Choice
+choiceFor r b =
+    cond (eqb (b .task) 0) Idle
+    (cond (eqb (b .key) 0) (Mover (b .task) (ticks (deadlineOf (stateAt r (b .task - 1)))) Upper)
+    (cond (eqb (b .key) 1) (Mover (b .task) (ticks (deadlineOf (stateAt r (b .task - 1)))) Lower)
+    (Fixed (b .task) (ticks (deadlineOf (stateAt r (b .task - 1)))))))
+
+-- core k's choice
+unfoldable pub choiceOf : Record → ℕ → Choice
+choiceOf r k = choiceFor r (bestOf r k tasksLimit)
+
+-- the record with its clock set
+abbrev pub atTime : Record → ℕ → Record
+atTime r t = record { plan = r .plan; clock = ticks t; states = r .states }
+
+-- look
+unfoldable pub lookOf : Record → ℕ → ℕ → Looked
+lookOf r k t =
+    cond (eqb (lookNo r k t) 0)
+    (record { refusal = 0; choice = choiceOf r k; next = atTime r t })
+    (record { refusal = lookNo r k t; choice = Idle; next = r })

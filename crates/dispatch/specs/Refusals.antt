@@ -1,0 +1,45 @@
+-- Refusals of release, finish and look, in the order in which they are tested. Task and core numbers are from 1.
+use Prim.Native.Nat.{ℕ, _+_, _-_}
+use mathlib.Core.Bool.{Bool, cond, not, _&&_, _||_}
+use lib.Dec.{ltb, leb, eqb}
+use Rattle.units.specs.Limits.{clockLimit, runsLimit}
+use Rattle.planning.specs.declared.Line.{Line}
+use Rattle.dispatch.specs.declared.State.{State}
+use Rattle.dispatch.specs.declared.Record.{Record}
+use Rattle.dispatch.specs.Record.{lineAt, stateAt}
+use Rattle.dispatch.specs.Sound.{soundOf}
+
+-- 7 and 13: a number 0 or above n
+abbrev pub outside : ℕ → ℕ → Bool
+outside n i = eqb i 0 || ltb n i
+
+-- 12: the call's time is above the clock's limit; 8: it is below the stored clock
+abbrev pub timeNo : Record → ℕ → ℕ
+timeNo r t = cond (ltb clockLimit t) 12 (cond (ltb t (r .clock .0)) 8 0)
+
+-- what calls for a task test first: 15, 7, 12, 8
+unfoldable pub taskNo : Record → ℕ → ℕ → ℕ
+taskNo r i t = cond (not (soundOf r)) 15 (cond (outside (r .plan .count) i) 7 (timeNo r t))
+
+-- what a look tests: 15, 13, 12, 8
+unfoldable pub lookNo : Record → ℕ → ℕ → ℕ
+lookNo r k t = cond (not (soundOf r)) 15 (cond (outside (r .plan .cores) k) 13 (timeNo r t))
+
+-- 9: a release less than T after this task's last accepted release
+abbrev pub early : Line → State → ℕ → Bool
+early ln st t = st .had && ltb t (st .last .0 + ln .period .0)
+
+-- a release's own: 9, then 10: 8 runs of the task are unfinished
+abbrev pub releaseOwn : Line → State → ℕ → ℕ
+releaseOwn ln st t = cond (early ln st t) 9 (cond (eqb (st .live) runsLimit) 10 0)
+
+-- a finish's own: 11: the task has no unfinished run
+abbrev pub finishOwn : State → ℕ
+finishOwn st = cond (eqb (st .live) 0) 11 0
+
+-- the first that applies
+unfoldable pub releaseNo : Record → ℕ → ℕ → ℕ
+releaseNo r i t = cond (eqb (taskNo r i t) 0) (releaseOwn (lineAt r (i - 1)) (stateAt r (i - 1)) t) (taskNo r i t)
+
+unfoldable pub finishNo : Record → ℕ → ℕ → ℕ
+finishNo r i t = cond (eqb (taskNo r i t) 0) (finishOwn (stateAt r (i - 1))) (taskNo r i t)

@@ -1,0 +1,122 @@
+// The rules of soundness for one task's state.
+use crate::Run;
+use crate::State;
+use planning::Line;
+use units::limits::CLOCK;
+use units::limits::CORES;
+use units::limits::RUNS;
+ghost use mathlib.Core.Path.{_≡_};
+ghost use Prim.Native.Nat.{_≤_};
+ghost use Rattle.units.specs.Limits.{periodLimit};
+ghost use Rattle.lists.specs.Lists.{sum};
+ghost use Rattle.dispatch.specs.Sound.{runSound, runEmpty, runsSound, turnSound, lastSound, stateSound, stateEmpty};
+
+// The sum of the turn counts, which may need more than 32 bits.
+fn sum_of(counts: [u32; CORES]) -> u64
+    ensures { λ r. ⌜ r ≡ sum counts ⌝ }
+{
+    let mut sum: u64 = 0;
+    let mut p: usize = 0;
+    while p < CORES {
+        sum += counts[p] as u64;
+        p += 1;
+    }
+    sum
+}
+
+impl Run {
+    // Its core is one where its task has a share, and its deadline at most the clock's limit plus T.
+    fn sound(self, line: Line) -> bool
+        requires { ⌜ line .period .0 ≤ periodLimit ⌝ }
+        ensures { λ r. ⌜ r ≡ runSound line self ⌝ }
+    {
+        let core = self.core;
+        if core == 0 {
+            return false;
+        }
+        if CORES < core {
+            return false;
+        }
+        let at = core - 1;
+        let s = line.shares[at];
+        (0 < s.0) & (self.deadline.0 <= CLOCK + line.period.0)
+    }
+
+    // All numbers are 0.
+    fn empty(self) -> bool
+        ensures { λ r. ⌜ r ≡ runEmpty self ⌝ }
+    {
+        (self.core == 0) & (self.deadline.0 == 0)
+    }
+}
+
+impl State {
+    // A task has 0 to 8 unfinished runs, each sound; past them all is 0.
+    fn runs_sound(self, line: Line) -> bool
+        requires { ⌜ line .period .0 ≤ periodLimit ⌝ }
+        ensures { λ r. ⌜ r ≡ runsSound line self ⌝ }
+    {
+        if RUNS < self.live {
+            return false;
+        }
+        let mut k: usize = 0;
+        while k < RUNS {
+            let run = self.runs[k];
+            if k < self.live {
+                if !run.sound(line) {
+                    return false;
+                }
+            } else {
+                if !run.empty() {
+                    return false;
+                }
+            }
+            k += 1;
+        }
+        true
+    }
+
+    // The turn counts sum to the place, which is below the weight.
+    fn turn_sound(self, line: Line) -> bool
+        ensures { λ r. ⌜ r ≡ turnSound line self ⌝ }
+    {
+        let counts = self.counts;
+        let sum = sum_of(counts);
+        (sum == self.place as u64) & (self.place < line.weight.0)
+    }
+
+    // A last release is within the clock's range, and 0 where there was none.
+    fn last_sound(self) -> bool
+        ensures { λ r. ⌜ r ≡ lastSound self ⌝ }
+    {
+        (self.last.0 <= CLOCK) & (self.had | (self.last.0 == 0))
+    }
+
+    // The rules for a task in use.
+    pub fn sound(self, line: Line) -> bool
+        requires { ⌜ line .period .0 ≤ periodLimit ⌝ }
+        ensures { λ r. ⌜ r ≡ stateSound line self ⌝ }
+    {
+        self.runs_sound(line) & self.turn_sound(line) & self.last_sound()
+    }
+
+    // Past the N tasks all numbers are 0.
+    pub fn empty(self) -> bool
+        ensures { λ r. ⌜ r ≡ stateEmpty self ⌝ }
+    {
+        let counts = self.counts;
+        let sum = sum_of(counts);
+        if !((sum == 0) & (self.place == 0) & (self.last.0 == 0) & !self.had & (self.live == 0)) {
+            return false;
+        }
+        let mut k: usize = 0;
+        while k < RUNS {
+            let run = self.runs[k];
+            if !run.empty() {
+                return false;
+            }
+            k += 1;
+        }
+        true
+    }
+}
