@@ -1,27 +1,14 @@
 -- Finish: ends the task's oldest unfinished run and answers the time less its deadline.
 use Prim.Native.Nat.{ℕ, _-_}
 use mathlib.Core.Bool.{cond}
-use mathlib.Core.List.{List, [], _∷_, _++_}
 use lib.Dec.{eqb}
-use lib.ListN.{drop}
-use lib.IntN.{ℤ, pos, subℕ}
-use Rattle.dispatch.specs.declared.Run.{Run}
-use Rattle.dispatch.specs.declared.State.{State}
+use lib.IntN.{pos, subℕ}
+use Rattle.state.specs.State.{runAt}
+use Rattle.state.specs.Runs.{withoutRun}
 use Rattle.dispatch.specs.declared.Record.{Record}
 use Rattle.dispatch.specs.declared.finish.Finished.{Finished}
-use Rattle.dispatch.specs.Record.{noRun, lineAt, stateAt, runAt, moved}
+use Rattle.dispatch.specs.Record.{stateAt, moved}
 use Rattle.dispatch.specs.Refusals.{finishNo}
-
--- the task without its oldest run: the others move up
-unfoldable pub withoutRun : State → State
-withoutRun st = record {
-  counts = st .counts;
-  place = st .place;
-  last = st .last;
-  had = st .had;
-  runs = drop 1 (st .runs) ++ (noRun ∷ []);
-  live = st .live - 1;
-}
 
 -- an accepted finish of task i, from 1: negative if early, 0 if on the deadline
 unfoldable pub takeFinish : Record → ℕ → ℕ → Finished

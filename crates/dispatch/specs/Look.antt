@@ -7,7 +7,8 @@ use Rattle.units.specs.Units.{ticks}
 use Rattle.planning.specs.declared.Line.{Line}
 use Rattle.planning.specs.Plan.{rowOf}
 use Rattle.assignment.specs.Movers.{upper, lower}
-use Rattle.dispatch.specs.declared.State.{State}
+use Rattle.state.specs.declared.State.{State}
+use Rattle.state.specs.State.{runAt}
 use Rattle.dispatch.specs.declared.Record.{Record}
 use Rattle.dispatch.specs.declared.look.Side.{Side}
 use Rattle.dispatch.specs.declared.look.Side.the-variants.{Upper, Lower}
@@ -15,7 +16,7 @@ use Rattle.dispatch.specs.declared.look.Choice.{Choice}
 use Rattle.dispatch.specs.declared.look.Choice.the-variants.{Idle, Fixed, Mover}
 use Rattle.dispatch.specs.declared.look.Best.{Best}
 use Rattle.dispatch.specs.declared.look.Looked.{Looked}
-use Rattle.dispatch.specs.Record.{lineAt, stateAt, runAt}
+use Rattle.dispatch.specs.Record.{lineAt, stateAt}
 use Rattle.dispatch.specs.Refusals.{lookNo}
 
 -- the deadline of a task's oldest unfinished run

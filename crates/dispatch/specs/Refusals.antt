@@ -1,10 +1,9 @@
 -- Refusals of release, finish and look, in the order in which they are tested. Task and core numbers are from 1.
-use Prim.Native.Nat.{ℕ, _+_, _-_}
-use mathlib.Core.Bool.{Bool, cond, not, _&&_, _||_}
-use lib.Dec.{ltb, leb, eqb}
-use Rattle.units.specs.Limits.{clockLimit, runsLimit}
-use Rattle.planning.specs.declared.Line.{Line}
-use Rattle.dispatch.specs.declared.State.{State}
+use Prim.Native.Nat.{ℕ, _-_}
+use mathlib.Core.Bool.{Bool, cond, not, _||_}
+use lib.Dec.{ltb, eqb}
+use Rattle.units.specs.Limits.{clockLimit}
+use Rattle.state.specs.Own.{releaseOwn, finishOwn}
 use Rattle.dispatch.specs.declared.Record.{Record}
 use Rattle.dispatch.specs.Record.{lineAt, stateAt}
 use Rattle.dispatch.specs.Sound.{soundOf}
@@ -24,18 +23,6 @@ taskNo r i t = cond (not (soundOf r)) 15 (cond (outside (r .plan .count) i) 7 (t
 -- what a look tests: 15, 13, 12, 8
 unfoldable pub lookNo : Record → ℕ → ℕ → ℕ
 lookNo r k t = cond (not (soundOf r)) 15 (cond (outside (r .plan .cores) k) 13 (timeNo r t))
-
--- 9: a release less than T after this task's last accepted release
-abbrev pub early : Line → State → ℕ → Bool
-early ln st t = st .had && ltb t (st .last .0 + ln .period .0)
-
--- a release's own: 9, then 10: 8 runs of the task are unfinished
-abbrev pub releaseOwn : Line → State → ℕ → ℕ
-releaseOwn ln st t = cond (early ln st t) 9 (cond (eqb (st .live) runsLimit) 10 0)
-
--- a finish's own: 11: the task has no unfinished run
-abbrev pub finishOwn : State → ℕ
-finishOwn st = cond (eqb (st .live) 0) 11 0
 
 -- the first that applies
 unfoldable pub releaseNo : Record → ℕ → ℕ → ℕ

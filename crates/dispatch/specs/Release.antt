@@ -1,33 +1,13 @@
 -- Release: the run's core and its deadline, release time plus T.
 use Prim.Native.Nat.{ℕ, _+_, _-_}
-use mathlib.Core.Bool.{true, cond}
+use mathlib.Core.Bool.{cond}
 use lib.Dec.{eqb}
-use lib.ListN.{set}
 use Rattle.units.specs.Units.{ticks}
-use Rattle.planning.specs.declared.Line.{Line}
-use Rattle.planning.specs.Plan.{rowOf}
-use Rattle.turn.specs.declared.Turn.{Turn}
-use Rattle.turn.specs.Turn.{turnOf}
-use Rattle.dispatch.specs.declared.State.{State}
+use Rattle.state.specs.Runs.{turnAt, withRun}
 use Rattle.dispatch.specs.declared.Record.{Record}
 use Rattle.dispatch.specs.declared.release.Released.{Released}
-use Rattle.dispatch.specs.Record.{run, lineAt, stateAt, moved}
+use Rattle.dispatch.specs.Record.{lineAt, stateAt, moved}
 use Rattle.dispatch.specs.Refusals.{releaseNo}
-
--- the turn of a task's next run
-abbrev pub turnAt : Line → State → Turn
-turnAt ln st = turnOf (ln .weight .0) (st .place) (rowOf ln) (st .counts)
-
--- the task after the release of a run at time t: one run more, counted in the turn cycle
-unfoldable pub withRun : Line → State → ℕ → State
-withRun ln st t = record {
-  counts = turnAt ln st .counts;
-  place = turnAt ln st .place;
-  last = ticks t;
-  had = true;
-  runs = set (st .runs) (st .live) (run (turnAt ln st .core) (t + ln .period .0));
-  live = st .live + 1;
-}
 
 -- an accepted release of task i, from 1
 unfoldable pub takeRelease : Record → ℕ → ℕ → Released

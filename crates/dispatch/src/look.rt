@@ -1,7 +1,7 @@
 // Look.
 use crate::Record;
-use crate::State;
 use planning::Line;
+use state::State;
 use units::limits::CORES;
 use units::limits::TASKS;
 use units::share::Share;

@@ -1,9 +1,9 @@
 // Planning for the dispatcher: a fresh record.
 use crate::Record;
-use crate::State;
 use admission::refusals::Refusal;
 use planning::Plan;
 use planning::plan_of;
+use state::State;
 use units::limits::TASKS;
 use units::ticks::Ticks;
 ghost use mathlib.Core.Path.{_≡_};

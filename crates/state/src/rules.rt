@@ -9,7 +9,7 @@ ghost use mathlib.Core.Path.{_≡_};
 ghost use Prim.Native.Nat.{_≤_};
 ghost use Rattle.units.specs.Limits.{periodLimit};
 ghost use Rattle.lists.specs.Lists.{sum};
-ghost use Rattle.dispatch.specs.Sound.{runSound, runEmpty, runsSound, turnSound, lastSound, stateSound, stateEmpty};
+ghost use Rattle.state.specs.Sound.{runSound, runEmpty, runsSound, turnSound, lastSound, stateSound, stateEmpty};
 
 // The sum of the turn counts, which may need more than 32 bits.
 fn sum_of(counts: [u32; CORES]) -> u64

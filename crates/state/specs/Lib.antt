@@ -1,0 +1,4 @@
+pub mod State
+pub mod Sound
+pub mod Own
+pub mod Runs
