@@ -1,14 +1,12 @@
 -- Look: one core's choice.
-use Prim.Native.Nat.{ℕ, zero, suc, _+_, _-_}
-use mathlib.Core.Bool.{Bool, true, false, cond, _&&_, _||_}
+use Prim.Native.Nat.{ℕ, zero, suc, _-_}
+use mathlib.Core.Bool.{cond, _&&_, _||_}
 use lib.Dec.{ltb, eqb}
 use Rattle.units.specs.Limits.{tasksLimit}
 use Rattle.units.specs.Units.{ticks}
 use Rattle.planning.specs.declared.Line.{Line}
-use Rattle.planning.specs.Plan.{rowOf}
-use Rattle.assignment.specs.Movers.{upper, lower}
 use Rattle.state.specs.declared.State.{State}
-use Rattle.state.specs.State.{runAt}
+use Rattle.state.specs.Key.{deadlineOf, waits, keyOf}
 use Rattle.dispatch.specs.declared.Record.{Record}
 use Rattle.dispatch.specs.declared.look.Side.{Side}
 use Rattle.dispatch.specs.declared.look.Side.the-variants.{Upper, Lower}
@@ -18,18 +16,6 @@ use Rattle.dispatch.specs.declared.look.Best.{Best}
 use Rattle.dispatch.specs.declared.look.Looked.{Looked}
 use Rattle.dispatch.specs.Record.{lineAt, stateAt}
 use Rattle.dispatch.specs.Refusals.{lookNo}
-
--- the deadline of a task's oldest unfinished run
-abbrev pub deadlineOf : State → ℕ
-deadlineOf st = runAt st 0 .deadline .0
-
--- only a task's oldest unfinished run can be chosen, on its own core k, from 1
-abbrev pub waits : State → ℕ → Bool
-waits st k = ltb 0 (st .live) && eqb (runAt st 0 .core) k
-
--- who goes first, by the least key: an upper mover, then a lower one, then fixed tasks by earliest deadline
-abbrev pub keyOf : Line → State → ℕ → ℕ
-keyOf ln st k = cond (upper (k - 1) (rowOf ln)) 0 (cond (lower (k - 1) (rowOf ln)) 1 (2 + deadlineOf st))
 
 -- the better of the best task so far and task i, from 1: lowest task number at a tie
 abbrev pub better : Best → ℕ → Line → State → ℕ → Best

@@ -3,7 +3,8 @@ use Prim.Native.Nat.{ℕ}
 use mathlib.Core.Bool.{Bool, cond, _&&_}
 use lib.Dec.{ltb, leb}
 use Rattle.units.specs.Limits.{tasksLimit, clockLimit}
-use Rattle.soundness.specs.Plan.{allBelow, planSound}
+use Rattle.lists.specs.Below.{allBelow}
+use Rattle.soundness.specs.Plan.{planSound}
 use Rattle.state.specs.Sound.{stateSound, stateEmpty}
 use Rattle.dispatch.specs.declared.Record.{Record}
 use Rattle.dispatch.specs.Record.{lineAt, stateAt}

@@ -6,7 +6,8 @@ use units::limits::TASKS;
 ghost use mathlib.Core.Path.{_≡_};
 ghost use mathlib.Core.Bool.{true};
 ghost use Rattle.units.specs.Limits.{tasksLimit};
-ghost use Rattle.soundness.specs.Plan.{allBelow, planSound};
+ghost use Rattle.lists.specs.Below.{allBelow};
+ghost use Rattle.soundness.specs.Plan.{planSound};
 ghost use Rattle.dispatch.specs.Sound.{stateOk, soundOf};
 
 impl Record {

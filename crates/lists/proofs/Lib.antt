@@ -4,3 +4,4 @@ pub mod Pairs
 pub mod Parts
 pub mod Rows
 pub mod Filled
+pub mod Below

@@ -2,3 +2,4 @@ pub mod State
 pub mod Sound
 pub mod Own
 pub mod Runs
+pub mod Key

@@ -9,6 +9,7 @@ use Rattle.planning.specs.Plan.{rowOf}
 use Rattle.turn.specs.declared.Turn.{Turn}
 use Rattle.turn.specs.Turn.{turnOf}
 use Rattle.state.specs.declared.State.{State}
+use Rattle.state.specs.declared.runs.Taken.{Taken}
 use Rattle.state.specs.State.{run, noRun}
 
 -- the turn of a task's next run
@@ -25,6 +26,10 @@ withRun ln st t = record {
   runs = set (st .runs) (st .live) (run (turnAt ln st .core) (t + ln .period .0));
   live = st .live + 1;
 }
+
+-- the same, with the run's core and deadline
+unfoldable pub takenRun : Line → State → ℕ → Taken
+takenRun ln st t = record { state = withRun ln st t; core = turnAt ln st .core; deadline = ticks (t + ln .period .0) }
 
 -- the task without its oldest run: the others move up
 unfoldable pub withoutRun : State → State

@@ -7,7 +7,7 @@ use Rattle.units.specs.Limits.{coresLimit, clockLimit, runsLimit}
 use Rattle.lists.specs.Lists.{sum}
 use Rattle.planning.specs.declared.Line.{Line}
 use Rattle.planning.specs.Plan.{rowOf}
-use Rattle.soundness.specs.Plan.{allBelow}
+use Rattle.lists.specs.Below.{allBelow}
 use Rattle.state.specs.declared.Run.{Run}
 use Rattle.state.specs.declared.State.{State}
 use Rattle.state.specs.State.{runAt}

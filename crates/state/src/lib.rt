@@ -1,4 +1,5 @@
 // What a task is at, beside its line of the plan.
+pub mod key;
 pub mod own;
 pub mod rules;
 pub mod runs;
