@@ -1,15 +1,14 @@
 -- The order as the definitions have it: its tasks are among the box's, and both passes over them give the shares.
-use Prim.Native.Nat.{ℕ, zero, suc, _<_}
-use mathlib.Core.Path.{_≡_, refl, sym, ap, _∙_}
+use Prim.Native.Nat.{ℕ, zero, suc, _-_, _<_}
+use mathlib.Core.Path.{_≡_, refl, sym, _∙_}
 use mathlib.Core.List.{List, [], _∷_}
 use native.Mathlib.Omega.{arith}
-use lib.ListN.{length, getD, take, length-map}
-use lib.Seq.{ext-getD, getD-take}
+use lib.ListN.{length, getD, length-map, length-append, length-replicate, List·getD-append}
+use lib.Seq.{ext-getD, take-at}
 use Rattle.units.specs.Limits.{coresLimit, tasksLimit}
-use Rattle.lists.specs.Lists.{parts}
+use Rattle.lists.specs.Lists.{zeros, parts}
 use Rattle.lists.proofs.Lists.{parts-len}
-use Rattle.ordering.specs.declared.Order.{Order}
-use Rattle.ordering.specs.Order.{order, inOrder}
+use Rattle.ordering.specs.Order.{order, inOrder, orderedOf}
 use Rattle.ordering.proofs.Picks.{order-length, inOrder-length, order-place, inOrder-at}
 use Rattle.assignment.specs.Passes.{blank, sharesOf}
 use Rattle.assignment.specs.Assign.{weigh, assign, from, Among}
@@ -27,18 +26,19 @@ weigh-order ws =
     ext-getD 0 (weigh ws (order ws)) (inOrder ws) (n ∙ order-length ws ∙ sym (inOrder-length ws))
     (λ i h. weigh-at ws (order ws) i (omega arith) ∙ sym (inOrder-at ws i (omega (arith, order-length ws))))
 
-module _ (o : Order) (ws : List ℕ) (l : length ws ≡ tasksLimit) (tasks : take (o .count) (o .tasks) ≡ order ws) where
+module _ (ws : List ℕ) (l : length ws ≡ tasksLimit) where
   -- its tasks are among the box's
-  pub among : length (o .tasks) ≡ tasksLimit → o .count ≡ parts ws → Among o
-  among k n = record {
-    long = k;
+  pub among : Among (orderedOf ws)
+  unfolding orderedOf
+  among = record {
+    long = simp (length-append, length-replicate, order-length) (omega (arith, parts-len ws));
     few = omega (arith, parts-len ws);
     low = λ i h.
-        let e : getD (o .tasks) i 0 ≡ getD (order ws) i 0 = sym (getD-take (o .count) (o .tasks) i 0 h) ∙ ap (λ (ts : List ℕ). getD ts i 0) tasks in
-        omega (arith, order-place ws i (omega arith));
+        let q : i < length (order ws) = omega (arith, order-length ws) in
+        rw List·getD-append (omega (arith, order-place ws i h .0));
   }
 
   -- both passes over them give the shares
-  pub shares-are : (room : List ℕ) → length room ≡ coresLimit → assign ws (from o 0) room (blank tasksLimit coresLimit) ≡ sharesOf ws room
-  unfolding sharesOf
-  shares-are room k = rw (tasks, weigh-order ws, l, k)
+  pub shares-are : (room : List ℕ) → length room ≡ coresLimit → assign ws (from (orderedOf ws) 0) room (blank tasksLimit coresLimit) ≡ sharesOf ws room
+  unfolding orderedOf sharesOf
+  shares-are room k = rw (take-at (order ws) (zeros (tasksLimit - parts ws)) (parts ws) (order-length ws), weigh-order ws, l, k)

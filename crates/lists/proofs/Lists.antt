@@ -5,6 +5,7 @@ use mathlib.Core.Logic.{⊎-elim}
 use mathlib.Core.Bool.{Bool, true, false, cond}
 use mathlib.Core.List.{List, [], _∷_}
 use native.Mathlib.Omega.{arith}
+use native.Mathlib.Nat.{sub-zero, zero-sub, suc-sub-suc}
 use lib.Dec.{ltb, leb, eqb, eqb·suc-zero}
 use lib.ListN.{length, getD, take, drop, set}
 use borrow.Author.Tests.{ltb-true, ltb-false, lt-ltb, le-ltb, leb-true, leb-false, eqb-true, eqb-false}
@@ -74,6 +75,11 @@ pub zeros-at : (m p : ℕ) → getD (zeros m) p 0 ≡ 0
 zeros-at zero p = refl
 zeros-at (suc m) zero = refl
 zeros-at (suc m) (suc p) = zeros-at m p
+
+pub zeros-drop : (m p : ℕ) → drop p (zeros m) ≡ zeros (m - p)
+zeros-drop m zero = rw (sub-zero m)
+zeros-drop zero (suc p) = rw (zero-sub (suc p))
+zeros-drop (suc m) (suc p) = rw (suc-sub-suc m p) (zeros-drop m p)
 
 pub zeros-sum : (m : ℕ) → sum (zeros m) ≡ 0
 zeros-sum zero = refl

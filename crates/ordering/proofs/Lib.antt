@@ -1,4 +1,3 @@
 pub mod Place
 pub mod Picks
-pub mod Counted
 pub mod Stored
