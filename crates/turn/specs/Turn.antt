@@ -63,3 +63,16 @@ pub record Turnable (w t : ℕ) (ss ns : List ℕ) : Type 0 where
   pub below : t < w
   pub shares : sum ss ≡ w
   pub counts : sum ns ≡ t
+
+-- the counts and the place of a fresh plan
+abbrev pub fresh : Turn
+fresh = record { core = 0; counts = zeros coresLimit; place = 0 }
+
+-- the turn after a turn
+abbrev pub nextTurn : ℕ → List ℕ → Turn → Turn
+nextTurn w ss r = turnOf w (r .place) ss (r .counts)
+
+-- the cores of the next k runs
+unfoldable pub turns : ℕ → ℕ → List ℕ → Turn → List ℕ
+turns zero w ss r = []
+turns (suc k) w ss r = let next = nextTurn w ss r in next .core ∷ turns k w ss next

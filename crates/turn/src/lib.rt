@@ -2,9 +2,12 @@
 use arith::ceiling::ceil_div;
 use units::limits::CORES;
 use units::share::Share;
+ghost use Prim.Native.Nat.{_≤_, _<_};
 ghost use mathlib.Core.Path.{_≡_};
+ghost use Rattle.units.specs.Limits.{coresLimit};
 ghost use Rattle.units.specs.Units.{nums};
-ghost use Rattle.turn.specs.Turn.{better as betterOf, turnOf, Turnable};
+ghost use Rattle.lists.specs.Lists.{sum};
+ghost use Rattle.turn.specs.Turn.{better as betterOf, counted as countedOf, turnOf, Turnable};
 
 // The best core so far, from 1 (0: none), and the place by which its next run is due.
 pub struct Best {
@@ -30,10 +33,11 @@ fn better(best: Best, j: usize, share: u32, count: u32, weight: u32, place: u32)
         return best;
     }
     let due = ceil_div((n + 1) * w, s);
-    if (best.core == 0) | (due < best.due) {
-        return Best { core: j, due: due };
+    let here = Best { core: j, due: due };
+    if best.core == 0 {
+        return here;
     }
-    best
+    if due < best.due { here } else { best }
 }
 
 // The core of the next run, and the counts and the place after it.
@@ -54,7 +58,10 @@ pub fn turn_of(weight: Share, place: u32, shares: [Share; CORES], counts: [u32; 
 }
 
 // The run is counted; after the last run of a cycle counts and place start from 0 again.
-fn counted(core: usize, counts: [u32; CORES], weight: u32, place: u32) -> Turn {
+fn counted(core: usize, counts: [u32; CORES], weight: u32, place: u32) -> Turn
+    requires { ⌜ (0 < core) × (core ≤ coresLimit) × (place < weight) × (sum counts ≡ place) ⌝ }
+    ensures { λ r. ⌜ r ≡ countedOf weight place counts core ⌝ }
+{
     if place + 1 == weight {
         return Turn {
             core: core,

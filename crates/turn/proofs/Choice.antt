@@ -1,0 +1,139 @@
+-- The core of the next run is the one that document 01 names: open, with the least due place, lowest core at a tie.
+use Prim.Native.Nat.{ℕ, zero, suc, _+_, _*_, _≤_, _<_}
+use mathlib.Core.Path.{_≡_, refl, sym, ap, _∙_}
+use mathlib.Core.Bool.{Bool, true, false, cond, _&&_, _||_}
+use mathlib.Core.List.{List, [], _∷_}
+use native.Mathlib.Nat.{le-trans}
+use native.Mathlib.Numerals.{add-one}
+use native.Mathlib.Omega.{arith}
+use borrow.Author.Count.{below-more}
+use borrow.Author.Tests.{ltb-true, ltb-false}
+use lib.Dec.{ltb, eqb, eqb·suc-zero}
+use lib.ListN.{length, getD, drop}
+use Rattle.units.specs.Limits.{coresLimit}
+use Rattle.lists.specs.Lists.{sum}
+use Rattle.lists.proofs.Tests.{by-cases}
+use Rattle.turn.specs.declared.Best.{Best}
+use Rattle.turn.specs.Turn.{isOpen, duePlace, better, bestFrom, nobody, coreOf, Turnable}
+use Rattle.turn.proofs.Search.{search-next, search-end}
+
+-- core i, counted from 0, is open
+abbrev pub Open : (w t : ℕ) (ss ns : List ℕ) → ℕ → Type 0
+Open w t ss ns i = getD ns i 0 * w < getD ss i 0 * (t + 1)
+
+-- it is not
+abbrev pub Closed : (w t : ℕ) (ss ns : List ℕ) → ℕ → Type 0
+Closed w t ss ns i = getD ss i 0 * (t + 1) ≤ getD ns i 0 * w
+
+-- the due place of its next run
+abbrev pub due : (w : ℕ) (ss ns : List ℕ) → ℕ → ℕ
+due w ss ns i = duePlace w (getD ss i 0) (getD ns i 0)
+
+-- of k cores it is core j, counted from 0: open, none that is open has a smaller due place, and none below it the same
+pub record Chosen (w t : ℕ) (ss ns : List ℕ) (k j : ℕ) : Type 0 where
+  pub within : j < k
+  pub opened : Open w t ss ns j
+  pub least : (i : ℕ) → i < k → Open w t ss ns i → due w ss ns j ≤ due w ss ns i
+  pub lowest : (i : ℕ) → i < j → Open w t ss ns i → due w ss ns j < due w ss ns i
+
+-- what the search knows after k cores: none is open, or one is chosen
+abbrev Found : (w t : ℕ) (ss ns : List ℕ) → ℕ → ℕ → ℕ → Type 0
+Found w t ss ns k zero d = (i : ℕ) → i < k → Closed w t ss ns i
+Found w t ss ns k (suc j) d = (d ≡ due w ss ns j) × Chosen w t ss ns k j
+
+module _ (w t : ℕ) (ss ns : List ℕ) where
+  -- the next core is closed
+  closed : (k core d : ℕ) → Found w t ss ns k core d → Closed w t ss ns k → Found w t ss ns (k + 1) core d
+  closed k zero d f c = below-more _ k f c
+  closed k (suc j) d f c = (
+    f .0,
+    record {
+      within = omega (arith, f .1 .within);
+      opened = f .1 .opened;
+      least = below-more _ k (f .1 .least) (λ o. absurd (omega arith));
+      lowest = f .1 .lowest;
+    },
+  )
+
+  -- it is open: the first that is, sooner due than the one found, or no sooner
+  first : (k d : ℕ) → Found w t ss ns k 0 d → Open w t ss ns k → Chosen w t ss ns (k + 1) k
+  first k d f o = record {
+    within = omega arith;
+    opened = o;
+    least = below-more _ k (λ i l p. absurd (omega (arith, f i l))) (λ p. omega arith);
+    lowest = λ i l p. absurd (omega (arith, f i l));
+  }
+
+  sooner : (k j d : ℕ) → Found w t ss ns k (suc j) d → Open w t ss ns k → due w ss ns k < d → Chosen w t ss ns (k + 1) k
+  sooner k j d f o h = record {
+    within = omega arith;
+    opened = o;
+    least = below-more _ k (λ i l p. omega (arith, f .0, f .1 .least i l p)) (λ p. omega arith);
+    lowest = λ i l p. omega (arith, f .0, f .1 .least i l p);
+  }
+
+  later : (k j d : ℕ) → Found w t ss ns k (suc j) d → d ≤ due w ss ns k → Chosen w t ss ns (k + 1) j
+  later k j d f h = record {
+    within = omega (arith, f .1 .within);
+    opened = f .1 .opened;
+    least = below-more _ k (f .1 .least) (λ p. omega (arith, f .0));
+    lowest = f .1 .lowest;
+  }
+
+  -- and so of the best after it
+  found-one : (k core d : ℕ) (o l : Bool) → isOpen w t (getD ss k 0) (getD ns k 0) ≡ o → ltb (due w ss ns k) d ≡ l → Found w t ss ns k core d
+      → let b : Best = cond (o && (eqb core 0 || l)) (record { core = suc k; due = due w ss ns k }) (record { core = core; due = d }) in
+      Found w t ss ns (k + 1) (b .core) (b .due)
+  found-one k core d false l p q f = closed k core d f (ltb-false _ _ p)
+  found-one k zero d true l p q f = (refl, first k d f (ltb-true _ _ p))
+  found-one k (suc j) d true true p q f = rw (eqb·suc-zero j) (refl, sooner k j d f (ltb-true _ _ p) (ltb-true _ _ q))
+  found-one k (suc j) d true false p q f = rw (eqb·suc-zero j) (f .0, later k j d f (ltb-false _ _ q))
+
+  found-next : (k : ℕ) (b : Best) → Found w t ss ns k (b .core) (b .due)
+      → let a = better w t b (suc k) (getD ss k 0) (getD ns k 0) in Found w t ss ns (suc k) (a .core) (a .due)
+  found-next k b f = rw (add-one k) at (found-one k (b .core) (b .due) (isOpen w t (getD ss k 0) (getD ns k 0)) (ltb (due w ss ns k) (b .due)) refl refl f)
+
+  -- with m cores left to look at
+  found-from : (m k : ℕ) (b : Best) → length ss ≡ k + m → length ns ≡ length ss → Found w t ss ns k (b .core) (b .due)
+      → let a = bestFrom w t (suc k) b (drop k ss) (drop k ns) in Found w t ss ns (length ss) (a .core) (a .due)
+  found-from zero k b e l f =
+      let g : k ≡ length ss = omega arith in
+      rw (search-end w t k b ss ns (omega arith)) (rw g at f)
+  found-from (suc m) k b e l f =
+      rw (search-next w t k b ss ns (omega arith) (omega arith))
+      (found-from m (suc k) (better w t b (suc k) (getD ss k 0) (getD ns k 0)) (omega arith) l (found-next k b f))
+
+-- if no core is open, too many runs were counted
+closed-sum : (w k : ℕ) (ss ns : List ℕ) → length ns ≡ length ss
+    → ((i : ℕ) → i < length ss → getD ss i 0 * k ≤ getD ns i 0 * w) → sum ss * k ≤ sum ns * w
+closed-sum w k [] ns l h = omega arith
+closed-sum w k (s ∷ ss) [] l h = absurd (omega arith)
+closed-sum w k (s ∷ ss) (n ∷ ns) l h =
+    omega (arith, h 0 (omega arith), closed-sum w k ss ns (omega arith) (λ i m. h (suc i) (omega arith)))
+
+module _ (w t : ℕ) (ss ns : List ℕ) (pos : 0 < w) (shares : sum ss ≡ w) (counts : sum ns ≡ t) (same : length ns ≡ length ss) where
+  some : (core d : ℕ) → Found w t ss ns (length ss) core d → (j : ℕ) × (core ≡ suc j) × Chosen w t ss ns (length ss) j
+  some zero d f =
+      absurd (omega (arith, closed-sum w (t + 1) ss ns same f, ap (λ (x : ℕ). x * (t + 1)) shares, ap (λ (x : ℕ). x * w) counts))
+  some (suc j) d f = (j, refl, f .1)
+
+  -- the core of the next run, counted from 0, is the chosen one
+  pub choice : (j : ℕ) × (coreOf w t ss ns ≡ suc j) × Chosen w t ss ns (length ss) j
+  unfolding coreOf
+  choice =
+      let b = bestFrom w t 1 nobody ss ns in
+      some (b .core) (b .due) (found-from w t ss ns (length ss) 0 nobody (omega arith) same (λ i l. absurd (omega arith)))
+
+-- and so from what the turn step is asked of
+pub turn-choice : (w t : ℕ) (ss ns : List ℕ) → Turnable w t ss ns → length ss ≡ coresLimit → length ns ≡ coresLimit
+    → (j : ℕ) × (coreOf w t ss ns ≡ suc j) × Chosen w t ss ns coresLimit j
+turn-choice w t ss ns a l m = rw l at (choice w t ss ns (omega (arith, a .below)) (a .shares) (a .counts) (omega arith))
+
+-- no other core is
+pub chosen-one : (w t : ℕ) (ss ns : List ℕ) (k i j : ℕ) → Chosen w t ss ns k i → Chosen w t ss ns k j → i ≡ j
+chosen-one w t ss ns k i j a b =
+    by-cases (ltb i j)
+    (λ e. absurd (omega (arith, b .lowest i (ltb-true i j e) (a .opened), a .least j (b .within) (b .opened))))
+    (λ e. by-cases (ltb j i)
+    (λ f. absurd (omega (arith, a .lowest j (ltb-true j i f) (b .opened), b .least i (a .within) (a .opened))))
+    (λ f. omega (arith, ltb-false i j e, ltb-false j i f)))

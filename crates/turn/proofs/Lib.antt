@@ -1,0 +1,4 @@
+pub mod Counting
+pub mod Search
+pub mod Choice
+pub mod Examples
