@@ -56,7 +56,7 @@ module _ (m : ℕ) (xs : List ℕ) (ok : inputTest m xs .no ≡ 0) where
     is = period-common (periods xs) l e .0
 
     -- then the sum decides
-    sum-decides : refusalOf m xs ≡ weightsTest m l (weights l xs)
+    pub sum-decides : refusalOf m xs ≡ weightsTest m l (weights l xs)
     unfolding refusalOf
     sum-decides =
         sym (leaves (inputTest m xs) (inputTest m xs) (weightsTest m l (weights l xs)) (periodTest (periodOf (periods xs)) orElse weightsTest m (common (periods xs)) (weights (common (periods xs)) xs)) refl ok

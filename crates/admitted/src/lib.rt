@@ -1,0 +1,1 @@
+// What admission answers, in the words of document 01: all of it stands in specs/ and proofs/.
