@@ -1,7 +1,8 @@
 // Who goes first on a core.
 use crate::State;
 use planning::Line;
-use units::limits::CORES;
+use rows::first_core;
+use rows::parts_of;
 ghost use mathlib.Core.Path.{_≡_};
 ghost use Prim.Native.Nat.{_+_, _<_, _≤_};
 ghost use Rattle.units.specs.Limits.{coresLimit, clockLimit, periodLimit};
