@@ -76,6 +76,7 @@ zeros-at zero p = refl
 zeros-at (suc m) zero = refl
 zeros-at (suc m) (suc p) = zeros-at m p
 
+-- what is left of zeros is zeros
 pub zeros-drop : (m p : ℕ) → drop p (zeros m) ≡ zeros (m - p)
 zeros-drop m zero = rw (sub-zero m)
 zeros-drop zero (suc p) = rw (zero-sub (suc p))
