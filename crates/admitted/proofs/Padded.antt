@@ -26,15 +26,19 @@ at-zeros (w ∷ ws) n zero = refl
 at-zeros (w ∷ ws) n (suc k) = at-zeros ws n k
 
 module _ (ws : List ℕ) where
+  -- the sum is that of the weights
   pub padded-sum : sum (padded ws) ≡ sum ws
   padded-sum = sum-zeros ws (tasksLimit - length ws)
 
+  -- so is the largest
   pub padded-most : most (padded ws) ≡ most ws
   padded-most = most-zeros ws (tasksLimit - length ws)
 
+  -- and the weight of each task
   pub padded-at : (k : ℕ) → getD (padded ws) k 0 ≡ getD ws k 0
   padded-at = at-zeros ws (tasksLimit - length ws)
 
+  -- sixty-four in all
   pub padded-length : length ws ≤ tasksLimit → length (padded ws) ≡ tasksLimit
   padded-length h = simp (length-append, length-replicate) (omega arith)
 
