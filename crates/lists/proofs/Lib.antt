@@ -1,3 +1,5 @@
 pub mod Tests
 pub mod Lists
 pub mod Pairs
+pub mod Parts
+pub mod Rows

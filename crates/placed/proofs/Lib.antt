@@ -1,0 +1,11 @@
+pub mod Words
+pub mod Loads
+pub mod Cut
+pub mod Whole
+pub mod Passes
+pub mod Guard
+pub mod Picks
+pub mod Shape
+pub mod Scatter
+pub mod Placed
+pub mod Properties
