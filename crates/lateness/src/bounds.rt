@@ -13,21 +13,18 @@ ghost use Rattle.planning.specs.Kept.{PlanKept};
 ghost use Rattle.lateness.specs.Lateness.{latesOf};
 
 // What stands at a core, 0 where there is no such core.
-fn at(numbers: [u64; CORES], p: usize) -> u64
-{
+fn at(numbers: [u64; CORES], p: usize) -> u64 {
     if p < CORES { numbers[p] } else { 0 }
 }
 
 // s × (D + 2T) of a mover on core p, from the reaches by first core.
-fn push(reaches: [u64; CORES], p: usize, line: Line) -> u64
-{
+fn push(reaches: [u64; CORES], p: usize, line: Line) -> u64 {
     let s = line.shares[p];
     s.0 as u64 * (at(reaches, first_core(line.shares)) + line.period.0)
 }
 
 // The reach of each mover by its first core.
-fn reaches_of(common: u32, movers: Movers) -> [u64; CORES]
-{
+fn reaches_of(common: u32, movers: Movers) -> [u64; CORES] {
     let l = common as u64;
     let mut reaches = [0u64; CORES];
     let mut p: usize = 0;
@@ -43,8 +40,7 @@ fn reaches_of(common: u32, movers: Movers) -> [u64; CORES]
 }
 
 // The bound of each core's fixed tasks.
-fn fixed_of(common: u32, movers: Movers, reaches: [u64; CORES]) -> [u64; CORES]
-{
+fn fixed_of(common: u32, movers: Movers, reaches: [u64; CORES]) -> [u64; CORES] {
     let l = common as u64;
     let mut bounds = [0u64; CORES];
     let mut p: usize = 0;
@@ -53,7 +49,9 @@ fn fixed_of(common: u32, movers: Movers, reaches: [u64; CORES]) -> [u64; CORES]
         let lower = movers.lower[p];
         let s = upper.shares[p];
         let t = lower.shares[p];
-        let work = push(reaches, p, upper) + push(reaches, p, lower) + l * (2 * upper.cost.0 + 2 * lower.cost.0);
+        let work = push(reaches, p, upper)
+            + push(reaches, p, lower)
+            + l * (2 * upper.cost.0 + 2 * lower.cost.0);
         bounds[p] = ceil_div(work, l - s.0 as u64 - t.0 as u64);
         p += 1;
     }
@@ -61,8 +59,7 @@ fn fixed_of(common: u32, movers: Movers, reaches: [u64; CORES]) -> [u64; CORES]
 }
 
 // A task's bound.
-fn late_of(line: Line, reaches: [u64; CORES], fixed: [u64; CORES]) -> i64
-{
+fn late_of(line: Line, reaches: [u64; CORES], fixed: [u64; CORES]) -> i64 {
     let shares = line.shares;
     let first = first_core(shares);
     if parts_of(shares) < 2 {
