@@ -1,6 +1,7 @@
 -- `lateness::movers::with_line` meets its contract: on each core that is passed the line stands where it is a mover.
-use Prim.Native.Nat.{_-_, _≤_}
+use Prim.Native.Nat.{ℕ, _-_, _<_}
 use mathlib.Core.Path.{sym, _∙_}
+use mathlib.Core.List.{List}
 use mathlib.Core.Logic.{⊎-elim}
 use native.Mathlib.Omega.{arith}
 use borrow.Author.Needs.{needs}
@@ -8,15 +9,14 @@ use lib.ListN.{length-map}
 use Rattle.units.specs.Limits.{coresLimit}
 use Rattle.units.specs.Units.{nums}
 use Rattle.assignment.specs.Movers.{upper as isUpper, lower as isLower}
-use Rattle.lateness.proofs.Front.{Front, is-upper, is-lower, front-none, front-set, front-skip, front-all}
+use Rattle.lateness.proofs.Filled.{filled-none}
+use Rattle.lateness.proofs.Front.{Front, front-set, front-skip, is-upper, is-lower}
 use Rattle.lateness.proofs.movers.with_line.Statement.{statement}
 use Rattle.lateness.proofs.movers.with_line.Tie as tie
 
 abbrev Inv-loop : tie.InvT-loop
 Inv-loop line shares moves first upper₀ lower₀ p₀ upper lower p =
-    (p ≤ coresLimit)
-    × Front (λ q. isUpper q (nums shares)) line upper₀ p upper
-    × Front (λ q. isLower q (nums shares)) line lower₀ p lower
+    Front (λ q. isUpper q (nums shares)) line upper₀ p upper × Front (λ q. isLower q (nums shares)) line lower₀ p lower
 
 abbrev μ-loop : tie.MeasureT-loop
 μ-loop line shares moves first upper₀ lower₀ p₀ upper lower p = coresLimit - p
@@ -31,9 +31,8 @@ loop-holds : tie.Need-loop-holds Inv-loop μ-loop
 loop-holds c =
     let m = c .before .before .before .before .before .args .movers in
     let g = c .before .before .before .before .before .good .0 .1 .1 in (
-      omega arith,
-      front-none _ _ _ (sym (length-map (m .upper) _) ∙ g .0 .1 .0 .1),
-      front-none _ _ _ (sym (length-map (m .lower) _) ∙ g .1 .0 .1 .0 .1),
+      filled-none _ _ _ _ (sym (length-map (m .upper) _) ∙ g .0 .1 .0 .1),
+      filled-none _ _ _ _ (sym (length-map (m .lower) _) ∙ g .1 .0 .1 .0 .1),
     )
 
 mul-s : tie.Need-mul-s Inv-loop μ-loop
@@ -62,20 +61,22 @@ loop-less c = omega arith
 
 loop-again : tie.Need-loop-again Inv-loop μ-loop
 loop-again c =
-    let ss = c .before .before .before .before .before .before .before .before .before .before .before .args .line .shares in
+    let a = c .before .before .before .before .before .before .before .before .before .before .before .args in
     let n = c .before .before .before .before .before .before .before .before .before .parts-of in
     let f = c .before .before .before .before .before .before .before .before .first-core in
     let at = c .before .before .before .before .before .loop in
-    let up = is-upper ss (at .p) (n .result) (f .result) (n .ensures) (f .ensures) in
-    let low = is-lower ss (at .p) (n .result) (f .result) (n .ensures) (f .ensures) in (
-      omega arith,
+    let p : ℕ = at .p in
+    let h : p < coresLimit = omega arith in
+    let row : List ℕ = nums (a .line .shares) in
+    let up = is-upper (a .line .shares) p (n .result) (f .result) (n .ensures) (f .ensures) in
+    let low = is-lower (a .line .shares) p (n .result) (f .result) (n .ensures) (f .ensures) in (
       ⊎-elim
-          (λ t. rw (t .1) (front-set _ _ _ (at .p) (at .upper) (at .inv .1) (omega arith) (sym up ∙ t .0 .taken)))
-          (λ t. rw (t .1) (front-skip _ _ _ (at .p) (at .upper) (at .inv .1) (omega arith) (sym up ∙ t .0 .left)))
+          (λ t. rw (t .1) (front-set (λ q. isUpper q row) (a .line) (a .movers .upper) p (at .upper) (at .inv .0) h (sym up ∙ t .0 .taken)))
+          (λ t. rw (t .1) (front-skip (λ q. isUpper q row) (a .line) (a .movers .upper) p (at .upper) (at .inv .0) h (sym up ∙ t .0 .left)))
           (c .if2 .came),
       ⊎-elim
-          (λ t. rw (t .1) (front-set _ _ _ (at .p) (at .lower) (at .inv .2) (omega arith) (sym low ∙ t .0 .taken)))
-          (λ t. rw (t .1) (front-skip _ _ _ (at .p) (at .lower) (at .inv .2) (omega arith) (sym low ∙ t .0 .left)))
+          (λ t. rw (t .1) (front-set (λ q. isLower q row) (a .line) (a .movers .lower) p (at .lower) (at .inv .1) h (sym low ∙ t .0 .taken)))
+          (λ t. rw (t .1) (front-skip (λ q. isLower q row) (a .line) (a .movers .lower) p (at .lower) (at .inv .1) h (sym low ∙ t .0 .left)))
           (c .before .if1 .came),
     )
 
@@ -83,8 +84,8 @@ returns : tie.Need-returns Inv-loop μ-loop
 returns c =
     let at = c .before .loop in
     record {
-      uppers = front-all _ _ _ (at .upper) (at .p) (at .inv .1) (omega arith);
-      lowers = front-all _ _ _ (at .lower) (at .p) (at .inv .2) (omega arith);
+      uppers = λ q h. at .inv .0 .done q (omega arith);
+      lowers = λ q h. at .inv .1 .done q (omega arith);
     }
 
 pub with-line-spec : {M : Type 1} → statement M
