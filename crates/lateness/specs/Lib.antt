@@ -1,1 +1,3 @@
 pub mod Lateness
+pub mod Cores
+pub mod Small

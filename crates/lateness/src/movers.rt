@@ -4,11 +4,15 @@ use units::limits::CORES;
 use units::limits::TASKS;
 use units::share::Share;
 ghost use mathlib.Core.Path.{_≡_};
+ghost use Rattle.lists.specs.Lists.{parts as partsOf};
 ghost use Rattle.units.specs.Units.{nums};
-ghost use Rattle.assignment.specs.Movers.{moves as movesOf, firstCore};
+ghost use Rattle.assignment.specs.Movers.{firstCore};
+ghost use Rattle.lateness.specs.Cores.{WithLine, MoversOf};
 
 // How many shares are positive.
-pub fn parts_of(shares: [Share; CORES]) -> usize {
+pub fn parts_of(shares: [Share; CORES]) -> usize
+    ensures { λ r. ⌜ r ≡ partsOf (nums shares) ⌝ }
+{
     let mut parts: usize = 0;
     let mut p: usize = 0;
     while p < CORES {
@@ -43,23 +47,25 @@ pub struct Movers {
 }
 
 // The movers with one line more in front.
-fn with_line(movers: Movers, line: Line) -> Movers {
+fn with_line(movers: Movers, line: Line) -> Movers
+    ensures { λ r. ⌜ WithLine movers line r ⌝ }
+{
     let shares = line.shares;
-    if parts_of(shares) < 2 {
-        return movers;
-    }
+    let moves = 1 < parts_of(shares);
     let first = first_core(shares);
     let mut upper = movers.upper;
     let mut lower = movers.lower;
     let mut p: usize = 0;
     while p < CORES {
         let s = shares[p];
-        if 0 < s.0 {
-            if p == first {
-                lower[p] = line;
-            } else {
-                upper[p] = line;
-            }
+        let on = moves & (0 < s.0);
+        let is_lower = on & (first == p);
+        if is_lower {
+            lower[p] = line;
+        }
+        let is_upper = on & !(first == p);
+        if is_upper {
+            upper[p] = line;
         }
         p += 1;
     }
@@ -70,7 +76,9 @@ fn with_line(movers: Movers, line: Line) -> Movers {
 }
 
 // The movers of each core.
-pub fn movers_of(lines: [Line; TASKS]) -> Movers {
+pub fn movers_of(lines: [Line; TASKS]) -> Movers
+    ensures { λ r. ⌜ MoversOf lines r ⌝ }
+{
     let mut movers = Movers {
         upper: [Line::EMPTY; CORES],
         lower: [Line::EMPTY; CORES],

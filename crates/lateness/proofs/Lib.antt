@@ -1,0 +1,12 @@
+pub mod Passed
+pub mod Filled
+pub mod Front
+pub mod Gathered
+pub mod Pair
+pub mod Modest
+pub mod Range
+pub mod Signed
+pub mod Bounded
+pub mod Reached
+pub mod Words
+pub mod Tasks
