@@ -1,0 +1,1 @@
+// What is certain, on one page each: definitions in specs/, theorems in proofs/.
