@@ -36,6 +36,7 @@ more-at ns j p l = go (ℕ-discrete p j)
     go (no n) = rw (getD-set-other ns j p (getD ns j 0 + 1) 0 n, ne-eqb (suc j) (suc p) (λ e. n (omega arith)), add-zero)
 
 module _ (w : ℕ) (ss : List ℕ) (pos : 0 < w) (shares : sum ss ≡ w) (long : length ss ≡ coresLimit) where
+  -- a fresh plan
   fresh-pace : Pace w 0 ss (zeros coresLimit)
   fresh-pace = rw long at (pace-start w ss pos shares)
 
@@ -95,6 +96,7 @@ module _ (w : ℕ) (ss : List ℕ) (pos : 0 < w) (shares : sum ss ≡ w) (long :
   again zero = let e : 0 + w ≡ w = omega arith in rw (e, cycle-end .0, cycle-end .1)
   again (suc k) = let e : suc k + w ≡ suc (k + w) = omega arith in rw (e, again k)
 
+  -- or any number of cycles before it
   many : (q k : ℕ) → coreOfRun w ss (q * w + k) ≡ coreOfRun w ss k
   unfolding coreOfRun
   many zero k = let e : 0 * w + k ≡ k = omega arith in rw e

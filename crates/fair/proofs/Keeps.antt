@@ -24,6 +24,7 @@ pub record Kept (w : ℕ) (ss : List ℕ) (r : Turn) : Type 0 where
   pub share : 0 < getD ss (r .core - 1) 0
 
 module _ (w t : ℕ) (ss ns : List ℕ) (a : Turnable w t ss ns) (wide : length ss ≡ coresLimit) (long : length ns ≡ coresLimit) where
+  -- and it does
   pub turn-keeps : Kept w ss (turnOf w t ss ns)
   unfolding turnOf counted
   turn-keeps =

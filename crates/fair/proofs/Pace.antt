@@ -40,6 +40,7 @@ gap-closed w s n t e h =
     rw (mul-comm (gap w (t + 1 + e) s n) w, mul-sub w (s * (t + 1 + e) / w) n) (omega arith)
 
 module _ (w t : ℕ) (ss ns : List ℕ) (pos : 0 < w) (shares : sum ss ≡ w) (p : Pace w t ss ns) (j : ℕ) (c : Chosen w t ss ns (length ss) j) where
+  -- with a run more of the chosen core none is a whole run ahead
   ahead-more : (i : ℕ) → getD (more ns j) i 0 * w < getD ss i 0 * (t + 1) + w
   ahead-more i = go (ℕ-discrete i j)
     where
@@ -63,6 +64,7 @@ module _ (w t : ℕ) (ss ns : List ℕ) (pos : 0 < w) (shares : sum ss ≡ w) (p
           absurd (omega (arith, due-by w (getD ss j 0) (getD ns j 0) (t + 1 + e) pos (open-share w t ss ns j (c .opened)) .0 (le-trans (c .least i l o) d))))
           (λ b. rw (sub-eq-zero-of-le (ltb-false _ _ b)) (omega arith))
 
+  -- and no more runs are due than there are places: the chosen core was behind and is less so, or no open core was
   late-more : (e : ℕ) → behind w (t + 1 + e) ss (more ns j) ≤ e
   late-more e =
       let m = behind-more w (t + 1 + e) ss ns j (c .within) (omega (arith, p .same, c .within)) in

@@ -7,6 +7,7 @@ use lib.ListN.{getD}
 use Rattle.turn.specs.Turn.{turns}
 use Rattle.fair.specs.Runs.{after, coreOfRun}
 
+-- the turn in place i of a list after c runs
 pub turns-are : (w : ℕ) (ss : List ℕ) (k c i : ℕ) → i < k → getD (turns k w ss (after w ss c)) i 0 ≡ coreOfRun w ss (i + c)
 unfolding turns after coreOfRun
 turns-are w ss zero c i h = absurd (omega arith)

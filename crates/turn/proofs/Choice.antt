@@ -78,6 +78,7 @@ module _ (w t : ℕ) (ss ns : List ℕ) where
       rw (eqb·suc-zero j) (refl, taken k (ltb-true _ _ p) (λ i m o. omega (arith, ltb-true, f .0, f .1 .least i m o)))
   found-one k (suc j) d true false p q f = rw (eqb·suc-zero j) (f .0, kept k j (f .1) (λ o. omega (arith, ltb-false, f .0)))
 
+  -- one core more
   found-next : (k : ℕ) (b : Best) → Found w t ss ns k (b .core) (b .due)
       → let a = better w t b (suc k) (getD ss k 0) (getD ns k 0) in Found w t ss ns (suc k) (a .core) (a .due)
   found-next k b f = rw (add-one k) at (found-one k (b .core) (b .due) (isOpen w t (getD ss k 0) (getD ns k 0)) (ltb (due w ss ns k) (b .due)) refl refl f)
@@ -101,6 +102,7 @@ closed-sum w k (s ∷ ss) (n ∷ ns) l h =
     omega (arith, h 0 (omega arith), closed-sum w k ss ns (omega arith) (λ i m. h (suc i) (omega arith)))
 
 module _ (w t : ℕ) (ss ns : List ℕ) (pos : 0 < w) (shares : sum ss ≡ w) (counts : sum ns ≡ t) (same : length ns ≡ length ss) where
+  -- some core is open: shares that sum to w and counts that sum to t leave one
   some : (core d : ℕ) → Found w t ss ns (length ss) core d → (j : ℕ) × (core ≡ suc j) × Chosen w t ss ns (length ss) j
   some zero d f =
       absurd (omega (arith, closed-sum w (t + 1) ss ns same f, ap (λ (x : ℕ). x * (t + 1)) shares, ap (λ (x : ℕ). x * w) counts))
