@@ -9,10 +9,9 @@ use Rattle.ordering.specs.Order.{order, inOrder}
 use Rattle.assignment.specs.Passes.{blank, sharesOf}
 use Rattle.planning.specs.Plan.{emptyLine, emptyPlan, planFor, refusedPlan, takenPlan, planOf}
 use Rattle.lateness.specs.Lateness.{reachOn, reaches, fixedLate, late, latesOf}
-use Rattle.turn.specs.Turn.{bestFrom, coreOf, counted, turnOf}
-use Rattle.fair.specs.Runs.{after, coreOfRun}
+use Rattle.turn.specs.Turn.{bestFrom, coreOf, counted, turnOf, turns}
 use Rattle.demands.specs.Examples.{holds, allHold, examples}
 
 pub examples-hold : allHold examples ≡ true
-unfolding holds planOf planFor refusedPlan takenPlan emptyPlan emptyLine refusalOf inputTest periodOf common lcm gcd euclid order inOrder blank sharesOf reachOn reaches fixedLate late latesOf bestFrom coreOf counted turnOf after coreOfRun
+unfolding holds planOf planFor refusedPlan takenPlan emptyPlan emptyLine refusalOf inputTest periodOf common lcm gcd euclid order inOrder blank sharesOf reachOn reaches fixedLate late latesOf bestFrom coreOf counted turnOf turns
 examples-hold = refl

@@ -1,16 +1,16 @@
 -- Document 01's table of proved examples: what is given, and the answer.
-use Prim.Native.Nat.{ℕ}
+use Prim.Native.Nat.{ℕ, _-_}
 use mathlib.Core.Bool.{Bool, true, false, _&&_}
 use mathlib.Core.List.{List, [], _∷_, _++_, map}
 use lib.Dec.{eqb}
 use lib.IntN.{ℤ, pos, negsuc}
-use lib.ListN.{length, take, replicate}
+use lib.ListN.{length, take}
 use lib.Signed.{leZ}
 use Rattle.units.specs.Limits.{coresLimit}
 use Rattle.lists.specs.Lists.{sum, zeros}
 use Rattle.planning.specs.Plan.{planOf, tableOf}
 use Rattle.lateness.specs.Lateness.{latesOf}
-use Rattle.fair.specs.Runs.{coreOfRun}
+use Rattle.turn.specs.Turn.{fresh, turns as turnsFrom}
 
 -- a plan: cores, table, common period, shares and bounds; a refusal: its number and task; a list taken; a mover's turns
 pub data Example : Type 0 where
@@ -30,14 +30,6 @@ same f [] (y ∷ ys) = false
 same f (x ∷ xs) [] = false
 same f (x ∷ xs) (y ∷ ys) = f x y && same f xs ys
 
--- the first k numbers
-abbrev pub countTo : ℕ → List ℕ
-countTo k = upTo k 0
-  where
-    upTo : ℕ → ℕ → List ℕ
-    upTo Prim.Native.Nat.zero n = []
-    upTo (Prim.Native.Nat.suc k) n = n ∷ upTo k (Prim.Native.Nat.suc n)
-
 -- the definitions give the answer
 unfoldable pub holds : Example → Bool
 holds (plans m xs l rows lates) =
@@ -47,8 +39,7 @@ holds (plans m xs l rows lates) =
     && same sameℤ (take (length lates) (latesOf (planOf m xs .plan))) lates
 holds (takes m xs l) = eqb (planOf m xs .refusal .no) 0 && eqb (planOf m xs .plan .common) l
 holds (refuses m xs n i) = eqb (planOf m xs .refusal .no) n && eqb (planOf m xs .refusal .task) i
-holds (turns ss ks) =
-    same eqb (map (coreOfRun (sum ss) (ss ++ zeros (coresLimit Prim.Native.Nat.- length ss))) (countTo (length ks))) ks
+holds (turns ss ks) = same eqb (turnsFrom (length ks) (sum ss) (ss ++ zeros (coresLimit - length ss)) fresh) ks
 
 -- all of them do
 abbrev pub allHold : List Example → Bool
