@@ -1,9 +1,11 @@
--- The work that the code divides fits 64 bits.
+-- The work that the code divides: it fits 64 bits, and its parts are the definitions'.
 use Prim.Native.Nat.{ℕ, _+_, _*_, _≤_}
+use mathlib.Core.Path.{_≡_, ap₂, _∙_}
 use mathlib.Core.List.{List}
 use native.Mathlib.Omega.{arith}
 use native.Mathlib.Nat.{mul-le-mul}
 use Rattle.units.specs.Limits.{periodLimit, commonLimit}
+use Rattle.arith.specs.Ceiling.{ceilDiv}
 use Rattle.planning.specs.declared.Line.{Line}
 use Rattle.lateness.specs.Lateness.{push}
 use Rattle.lateness.specs.Small.{reachLimit, Small, SmallPair}
@@ -20,3 +22,7 @@ work-le {l} {rs} {p} {h} {ln} k =
     let own : l * (2 * h .cost .0 + 2 * ln .cost .0) ≤ commonLimit * (4 * periodLimit) =
     mul-le-mul {n₂ = commonLimit} {m₂ = 4 * periodLimit} (k .common) (omega (arith, k .upper .cost, k .lower .cost)) in
     omega (arith, push-le (k .upper), push-le (k .lower))
+
+-- equal work divided by equal room
+pub divided : (r a b a′ b′ : ℕ) → r ≡ ceilDiv a b → a ≡ a′ → b ≡ b′ → r ≡ ceilDiv a′ b′
+divided r a b a′ b′ e f g = e ∙ ap₂ ceilDiv f g

@@ -1,8 +1,6 @@
 -- The movers of each core, gathered from the last line to the first.
 use Prim.Native.Nat.{ℕ, _+_, _≤_, _<_}
-use mathlib.Core.Path.{_≡_, _∙_}
 use mathlib.Core.List.{List}
-use native.Mathlib.Omega.{arith}
 use native.Mathlib.Numerals.{add-one}
 use lib.ListN.{length, getD, drop, replicate, drop-of-length-le, getD-replicate}
 use lib.Seq.{drop-cons}

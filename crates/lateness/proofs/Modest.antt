@@ -17,7 +17,7 @@ use Rattle.planning.specs.Kept.{PlanKept}
 use Rattle.lateness.specs.declared.movers.Movers.{Movers}
 use Rattle.lateness.specs.Lateness.{upperOn, lowerOn, shareOn, push, reachOn, fixedLate}
 use Rattle.lateness.specs.Cores.{MoversOf, pairLate}
-use Rattle.lateness.specs.Small.{reachLimit, Small, SmallPair}
+use Rattle.lateness.specs.Small.{reachLimit, SmallPair}
 use Rattle.lateness.proofs.Words.{fixed-alone}
 use Rattle.lateness.proofs.Pair.{empty-share, empty-load, first-share, first-le, over-pair}
 

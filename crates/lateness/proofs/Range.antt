@@ -1,6 +1,6 @@
 -- Every bound of a plan that keeps what a plan has to keep lies from -1,000,000 to 1,000,000,000.
 use Prim.Native.Nat.{ℕ, zero, suc, _+_, _-_, _*_, _≤_, _<_, max}
-use mathlib.Core.Path.{_≡_, refl, _∙_}
+use mathlib.Core.Path.{_≡_, refl}
 use mathlib.Core.Bool.{true}
 use mathlib.Core.List.{List, [], _∷_, _++_, map}
 use native.Mathlib.Omega.{arith}
@@ -9,7 +9,7 @@ use lib.Dec.{ltb}
 use lib.ListN.{getD}
 use lib.IntN.{ℤ, pos, negsuc, subℕ}
 use lib.Signed.{leZ}
-use borrow.Author.Tests.{ltb-true, ltb-false, le-leb}
+use borrow.Author.Tests.{le-leb}
 use Rattle.units.specs.Limits.{coresLimit, periodLimit}
 use Rattle.lists.specs.Lists.{most}
 use Rattle.lists.proofs.Tests.{by-cases}
@@ -21,7 +21,8 @@ use Rattle.planning.specs.declared.Line.{Line}
 use Rattle.planning.specs.declared.Plan.{Plan}
 use Rattle.planning.specs.Plan.{noLine, rowOf}
 use Rattle.planning.specs.Kept.{PlanKept}
-use Rattle.lateness.specs.Lateness.{upperOn, lowerOn, shareOn, reachOf, push, reachOn, reaches, fixedLate, late, latesOf}
+use Rattle.lateness.specs.Lateness.{upperOn, lowerOn, shareOn, reachOf, reachOn, reaches, fixedLate, late, latesOf}
+use Rattle.lateness.specs.Small.{reachLimit, lateLimit}
 use Rattle.lateness.proofs.Modest.{Modest, modest, fixed-pair}
 
 -- the largest of two lists
@@ -63,7 +64,7 @@ module _ (pl : Plan) (k : PlanKept pl) where
       omega (arith, most-append rs (reachOn l rs n h ln ∷ []), reachOn-le l rs n h ln (k .common-some) (modest pl k n), reaches-le n)
 
   -- and so are the bounds of the fixed tasks
-  pub fixed-le : (rs : List ℕ) (p : ℕ) → most rs ≤ 7 * periodLimit * coresLimit → fixedLate (pl .common) rs (pl .lines) p ≤ 1000000000
+  pub fixed-le : (rs : List ℕ) (p : ℕ) → most rs ≤ reachLimit → fixedLate (pl .common) rs (pl .lines) p ≤ lateLimit
   fixed-le rs p b =
       let h : Line = upperOn p (pl .lines) in
       let ln : Line = lowerOn p (pl .lines) in
@@ -84,11 +85,11 @@ abbrev InRange : ℤ → Type 0
 InRange z = (leZ (negsuc 999999) z ≡ true) × (leZ z (pos 1000000000) ≡ true)
 
 -- a reach less a period
-sub-range : (a b : ℕ) → a ≤ 1000000000 → b ≤ 1000000 → InRange (subℕ a b)
+sub-range : (a b : ℕ) → a ≤ lateLimit → b ≤ periodLimit → InRange (subℕ a b)
 sub-range a b h k =
     by-cases (ltb a b)
     (λ e. rw e (le-leb (b - suc a) 999999 (omega arith), refl))
-    (λ e. rw e (refl, le-leb (a - b) 1000000000 (omega arith)))
+    (λ e. rw e (refl, le-leb (a - b) lateLimit (omega arith)))
 
 -- what holds of each line's number holds of each number
 each-line : (P : ℤ → Type 0) (f : Line → ℤ) (z : ℤ) → P z → (lns : List Line) → ((i : ℕ) → P (f (getD lns i noLine))) → (i : ℕ)
@@ -111,4 +112,4 @@ late-range pl k =
     let p : ℕ = firstCore (rowOf ln) in
     by-cases (moves (rowOf ln))
     (λ e. rw e (sub-range (reachOf rs ln) (ln .period .0) (omega (arith, most-ge rs p)) (k .periods i)))
-    (λ e. rw e (refl, le-leb (fixedLate l rs (pl .lines) p) 1000000000 (fixed-le pl k rs p (omega arith)))))
+    (λ e. rw e (refl, le-leb (fixedLate l rs (pl .lines) p) lateLimit (fixed-le pl k rs p (omega arith)))))

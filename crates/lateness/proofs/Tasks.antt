@@ -1,15 +1,13 @@
 -- Each task's bound, from the reaches of a plan's movers and the bounds of its fixed tasks by first core.
 use Prim.Native.Nat.{ℕ, _≤_}
 use mathlib.Core.Path.{_≡_, ap, _∙_}
-use mathlib.Core.Bool.{cond}
 use mathlib.Core.List.{List, map}
 use native.Mathlib.Omega.{arith}
-use lib.IntN.{pos, subℕ}
 use lib.ListN.{getD}
 use Rattle.units.specs.Limits.{coresLimit, periodLimit}
 use Rattle.lists.specs.Lists.{most}
 use Rattle.lists.proofs.Lists.{most-ge}
-use Rattle.assignment.specs.Movers.{moves, firstCore}
+use Rattle.assignment.specs.Movers.{firstCore}
 use Rattle.planning.specs.declared.Line.{Line}
 use Rattle.planning.specs.declared.Plan.{Plan}
 use Rattle.planning.specs.Plan.{noLine, rowOf}

@@ -16,7 +16,7 @@ use Rattle.lateness.proofs.Pair.{empty-share, empty-load, over-nobody}
 use Rattle.lateness.proofs.Signed.{pos-sub}
 
 -- a reach R is D + T, so that R + T is D + 2T
-reach-says : (r t : ℕ) → pos (r + t) ≡ subℕ r t +ℤ pos (2 * t)
+pub reach-says : (r t : ℕ) → pos (r + t) ≡ subℕ r t +ℤ pos (2 * t)
 reach-says r t =
     let d : subℕ r t +ℤ pos t ≡ pos r = ap (λ z. z +ℤ pos t) (sym (pos-sub r t)) ∙ -ℤ-+ℤ-cancel (pos r) (pos t) in
     let e : t + t ≡ 2 * t = omega arith in

@@ -1,10 +1,7 @@
 -- `lateness::bounds::fixed_on` meets its contract.
-use Prim.Native.Nat.{ℕ, _+_, _*_, _-_}
-use mathlib.Core.Path.{sym, ap₂, _∙_}
 use native.Mathlib.Omega.{arith}
 use Rattle.units.proofs.Units.{nums-at}
-use Rattle.arith.specs.Ceiling.{ceilDiv}
-use Rattle.lateness.proofs.Bounded.{work-le}
+use Rattle.lateness.proofs.Bounded.{work-le, divided}
 use borrow.Author.Needs.{needs}
 use Rattle.lateness.proofs.bounds.fixed_on.Statement.{statement}
 use Rattle.lateness.proofs.bounds.fixed_on.Tie as tie
@@ -67,11 +64,9 @@ ceil-div-requires c κs = search needs
 returns : tie.Need-returns
 returns c =
     let a = c .before .before .before .before .before .before .before .before .before .before .before .args in
-    let own : ℕ = a .common * (2 * a .upper .cost .0 + 2 * a .lower .cost .0) in
-    c .ceil-div .ensures
-    ∙ ap₂ ceilDiv
-    (ap₂ (λ (m n : ℕ). m + n + own) (c .before .before .before .before .push .ensures) (c .before .before .before .push2 .ensures))
-    (ap₂ (λ (m n : ℕ). a .common - m - n) (sym (nums-at (a .upper .shares) (a .p))) (sym (nums-at (a .lower .shares) (a .p))))
+    divided _ _ _ _ _ (c .ceil-div .ensures)
+    (omega (arith, c .before .before .before .before .push .ensures, c .before .before .before .push2 .ensures))
+    (omega (arith, nums-at (a .upper .shares) (a .p), nums-at (a .lower .shares) (a .p)))
 
 pub fixed-on-spec : {M : Type 1} → statement M
 fixed-on-spec =

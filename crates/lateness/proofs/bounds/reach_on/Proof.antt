@@ -1,11 +1,8 @@
 -- `lateness::bounds::reach_on` meets its contract.
-use Prim.Native.Nat.{ℕ, _+_, _*_, _-_}
-use mathlib.Core.Path.{sym, ap, ap₂, _∙_}
 use native.Mathlib.Omega.{arith}
 use Rattle.units.proofs.Units.{nums-at}
-use Rattle.arith.specs.Ceiling.{ceilDiv}
 use Rattle.lateness.specs.Lateness.{reachOn}
-use Rattle.lateness.proofs.Bounded.{work-le}
+use Rattle.lateness.proofs.Bounded.{work-le, divided}
 use borrow.Author.Needs.{needs}
 use Rattle.lateness.proofs.bounds.reach_on.Statement.{statement}
 use Rattle.lateness.proofs.bounds.reach_on.Tie as tie
@@ -46,11 +43,7 @@ returns : tie.Need-returns
 unfolding reachOn
 returns c =
     let a = c .before .before .before .before .before .before .before .args in
-    let own : ℕ = a .common * (2 * a .upper .cost .0 + a .lower .cost .0) in
-    c .ceil-div .ensures
-    ∙ ap₂ ceilDiv
-    (ap (λ (n : ℕ). n + own) (c .before .before .push .ensures))
-    (ap (λ (n : ℕ). a .common - n) (sym (nums-at (a .upper .shares) (a .p))))
+    divided _ _ _ _ _ (c .ceil-div .ensures) (omega (arith, c .before .before .push .ensures)) (omega (arith, nums-at (a .upper .shares) (a .p)))
 
 pub reach-on-spec : {M : Type 1} → statement M
 reach-on-spec =
