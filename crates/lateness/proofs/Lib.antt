@@ -1,4 +1,3 @@
-pub mod Passed
 pub mod Filled
 pub mod Front
 pub mod Gathered

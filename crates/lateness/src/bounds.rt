@@ -1,11 +1,11 @@
 // The bounds, by rising first core.
 use crate::movers::Movers;
-use crate::movers::first_core;
 use crate::movers::movers_of;
-use crate::movers::parts_of;
 use arith::ceiling::ceil_div;
 use planning::Line;
 use planning::Plan;
+use rows::first_core;
+use rows::parts_of;
 use units::limits::CORES;
 use units::limits::TASKS;
 ghost use Prim.Native.Nat.{ℕ, _≤_};

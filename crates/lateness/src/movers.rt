@@ -1,44 +1,10 @@
-// Movers: a task's first core, and the movers of each core.
+// The movers of each core.
 use planning::Line;
+use rows::first_core;
+use rows::parts_of;
 use units::limits::CORES;
 use units::limits::TASKS;
-use units::share::Share;
-ghost use mathlib.Core.Path.{_≡_};
-ghost use Rattle.lists.specs.Lists.{parts as partsOf};
-ghost use Rattle.units.specs.Units.{nums};
-ghost use Rattle.assignment.specs.Movers.{firstCore};
 ghost use Rattle.lateness.specs.Cores.{WithLine, MoversOf};
-
-// How many shares are positive.
-pub fn parts_of(shares: [Share; CORES]) -> usize
-    ensures { λ r. ⌜ r ≡ partsOf (nums shares) ⌝ }
-{
-    let mut parts: usize = 0;
-    let mut p: usize = 0;
-    while p < CORES {
-        let s = shares[p];
-        if 0 < s.0 {
-            parts += 1;
-        }
-        p += 1;
-    }
-    parts
-}
-
-// The lowest core with a share, CORES where there is none.
-pub fn first_core(shares: [Share; CORES]) -> usize
-    ensures { λ r. ⌜ r ≡ firstCore (nums shares) ⌝ }
-{
-    let mut p: usize = 0;
-    while p < CORES {
-        let s = shares[p];
-        if 0 < s.0 {
-            return p;
-        }
-        p += 1;
-    }
-    p
-}
 
 // The upper and the lower mover of each core, the empty line where there is none.
 pub struct Movers {
