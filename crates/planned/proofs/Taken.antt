@@ -4,7 +4,9 @@ use mathlib.Core.Path.{_≡_, sym, ap, _∙_, subst⁻¹}
 use mathlib.Core.List.{List}
 use native.Mathlib.Omega.{arith}
 use lib.ListN.{getD, List·getD-eq-default}
-use borrow.Author.Tests.{eq-eqb}
+use lib.Dec.{eqb}
+use borrow.Author.Tests.{eq-eqb, eqb-true}
+use Rattle.lists.proofs.Tests.{by-cases}
 use Rattle.admission.specs.Weight.{padded}
 use Rattle.admission.specs.Admission.{refusalOf}
 use Rattle.admitted.specs.Words.{commonOf, weightsOf}
@@ -13,7 +15,7 @@ use Rattle.admitted.proofs.Exactly.{exactly-taken}
 use Rattle.admitted.proofs.Padded.{padded-at}
 use Rattle.admitted.proofs.Weights.{weights-length, common-range, padded-kept}
 use Rattle.planning.specs.declared.Planned.{Planned}
-use Rattle.planning.specs.Plan.{planFor, takenPlan, planOf}
+use Rattle.planning.specs.Plan.{planFor, refusedPlan, takenPlan, planOf}
 use Rattle.planning.specs.Kept.{PlanKept}
 use Rattle.planned.proofs.Keeps.{Fits, keeps}
 
@@ -34,6 +36,14 @@ taken-fits m xs t =
       each = w .1;
       all = w .2;
     }
+
+-- the refusal that is answered
+pub plan-number : (m : ℕ) (xs : List ℕ) → planOf m xs .refusal .no ≡ refusalOf m xs .no
+unfolding planOf takenPlan refusedPlan
+plan-number m xs =
+    by-cases (eqb (refusalOf m xs .no) 0)
+    (λ e. rw e (sym (eqb-true (refusalOf m xs .no) 0 e)))
+    (λ e. rw e)
 
 -- the plan that is answered
 pub taken-plan : (m : ℕ) (xs : List ℕ) → refusalOf m xs .no ≡ 0 → planOf m xs .plan ≡ planFor m (commonOf xs) (padded (weightsOf xs)) xs
