@@ -2,6 +2,7 @@
 use crate::Record;
 use units::ticks::Ticks;
 ghost use mathlib.Core.Path.{_≡_};
+ghost use Rattle.dispatch.specs.Refusals.{finishNo};
 ghost use Rattle.dispatch.specs.Finish.{takeFinish, finishOf};
 
 // The refusal, or 0 with the time less the deadline; and the record after the call.
@@ -13,16 +14,21 @@ pub struct Finished {
 
 impl Record {
     // An accepted finish.
-    fn take_finish(self, task: usize, time: Ticks) -> Finished {
+    fn take_finish(self, task: usize, time: Ticks) -> Finished
+        requires { ⌜ finishNo self task (time .0) ≡ 0 ⌝ }
+        ensures { λ r. ⌜ r ≡ takeFinish self task (time .0) ⌝ }
+    {
         let i = task - 1;
         let state = self.states[i];
         let oldest = state.runs[0];
+        let late = time.0 as i64 - oldest.deadline.0 as i64;
+        let after = state.without_run();
         let mut next = self;
-        next.states[i] = state.without_run();
+        next.states[i] = after;
         next.clock = time;
         Finished {
             refusal: 0,
-            late: time.0 as i64 - oldest.deadline.0 as i64,
+            late: late,
             next: next,
         }
     }

@@ -1,13 +1,13 @@
 // Look.
 use crate::Record;
-use planning::Line;
-use state::State;
-use units::limits::CORES;
 use units::limits::TASKS;
-use units::share::Share;
 use units::ticks::Ticks;
 ghost use mathlib.Core.Path.{_≡_};
-ghost use Rattle.dispatch.specs.Look.{keyOf, better as betterOf, choiceFor, choiceOf, lookOf};
+ghost use mathlib.Core.Bool.{true};
+ghost use Prim.Native.Nat.{_<_, _≤_};
+ghost use Rattle.units.specs.Limits.{coresLimit, tasksLimit};
+ghost use Rattle.dispatch.specs.Sound.{soundOf};
+ghost use Rattle.dispatch.specs.Look.{bestOf, choiceOf, lookOf};
 
 // Where a mover stands on a core: lower on its first core, upper on any other.
 pub enum Side {
@@ -33,4 +33,76 @@ pub struct Looked {
     pub refusal: u32,
     pub choice: Choice,
     pub next: Record,
+}
+
+impl Record {
+    // The best of the first tasks for a core: the least key, the lowest task number at a tie.
+    fn best(self, core: usize) -> Best
+        requires { ⌜ (soundOf self ≡ true) × (0 < core) × (core ≤ coresLimit) ⌝ }
+        ensures { λ r. ⌜ r ≡ bestOf self core tasksLimit ⌝ }
+    {
+        let lines = self.plan.lines;
+        let mut best = Best { task: 0, key: 0 };
+        let mut i: usize = 0;
+        while i < TASKS {
+            let state = self.states[i];
+            if state.waits(core) {
+                let line = lines[i];
+                let key = state.key(line, core);
+                if (best.task == 0) | (key < best.key) {
+                    best = Best {
+                        task: i + 1,
+                        key: key,
+                    };
+                }
+            }
+            i += 1;
+        }
+        best
+    }
+
+    // Core's choice.
+    fn choice(self, core: usize) -> Choice
+        requires { ⌜ (soundOf self ≡ true) × (0 < core) × (core ≤ coresLimit) ⌝ }
+        ensures { λ r. ⌜ r ≡ choiceOf self core ⌝ }
+    {
+        let best = self.best(core);
+        let task = best.task;
+        if task == 0 {
+            return Choice::Idle;
+        }
+        let i = task - 1;
+        let state = self.states[i];
+        let run = state.runs[0];
+        let deadline = run.deadline;
+        if best.key == 0 {
+            return Choice::Mover(task, deadline, Side::Upper);
+        }
+        if best.key == 1 {
+            return Choice::Mover(task, deadline, Side::Lower);
+        }
+        Choice::Fixed(task, deadline)
+    }
+
+    // The core's choice; or the refusal, and the same record.
+    pub fn look(self, core: usize, time: Ticks) -> Looked
+        ensures { λ r. ⌜ r ≡ lookOf self core (time .0) ⌝ }
+    {
+        let no = self.look_no(core, time);
+        if no != 0 {
+            return Looked {
+                refusal: no,
+                choice: Choice::Idle,
+                next: self,
+            };
+        }
+        let choice = self.choice(core);
+        let mut next = self;
+        next.clock = time;
+        Looked {
+            refusal: 0,
+            choice: choice,
+            next: next,
+        }
+    }
 }

@@ -2,6 +2,7 @@
 use crate::Record;
 use units::ticks::Ticks;
 ghost use mathlib.Core.Path.{_≡_};
+ghost use Rattle.dispatch.specs.Refusals.{releaseNo};
 ghost use Rattle.dispatch.specs.Release.{takeRelease, releaseOf};
 
 // The refusal, or 0 with the run's core and deadline; and the record after the call.
@@ -14,7 +15,10 @@ pub struct Released {
 
 impl Record {
     // An accepted release.
-    fn take_release(self, task: usize, time: Ticks) -> Released {
+    fn take_release(self, task: usize, time: Ticks) -> Released
+        requires { ⌜ releaseNo self task (time .0) ≡ 0 ⌝ }
+        ensures { λ r. ⌜ r ≡ takeRelease self task (time .0) ⌝ }
+    {
         let i = task - 1;
         let lines = self.plan.lines;
         let line = lines[i];
