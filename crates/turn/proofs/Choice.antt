@@ -1,9 +1,8 @@
 -- The core of the next run is the one that document 01 names: open, with the least due place, lowest core at a tie.
 use Prim.Native.Nat.{ℕ, zero, suc, _+_, _*_, _≤_, _<_}
-use mathlib.Core.Path.{_≡_, refl, sym, ap, _∙_}
+use mathlib.Core.Path.{_≡_, refl, ap}
 use mathlib.Core.Bool.{Bool, true, false, cond, _&&_, _||_}
 use mathlib.Core.List.{List, [], _∷_}
-use native.Mathlib.Nat.{le-trans}
 use native.Mathlib.Numerals.{add-one}
 use native.Mathlib.Omega.{arith}
 use borrow.Author.Count.{below-more}
@@ -29,6 +28,14 @@ Closed w t ss ns i = getD ss i 0 * (t + 1) ≤ getD ns i 0 * w
 abbrev pub due : (w : ℕ) (ss ns : List ℕ) → ℕ → ℕ
 due w ss ns i = duePlace w (getD ss i 0) (getD ns i 0)
 
+-- an open core has a share
+pub open-share : (w t : ℕ) (ss ns : List ℕ) (i : ℕ) → Open w t ss ns i → 0 < getD ss i 0
+open-share w t ss ns i o = factor (getD ss i 0) o
+  where
+    factor : (s : ℕ) → getD ns i 0 * w < s * (t + 1) → 0 < s
+    factor zero h = omega arith
+    factor (suc s) h = omega arith
+
 -- of k cores it is core j, counted from 0: open, none that is open has a smaller due place, and none below it the same
 pub record Chosen (w t : ℕ) (ss ns : List ℕ) (k j : ℕ) : Type 0 where
   pub within : j < k
@@ -42,53 +49,36 @@ Found w t ss ns k zero d = (i : ℕ) → i < k → Closed w t ss ns i
 Found w t ss ns k (suc j) d = (d ≡ due w ss ns j) × Chosen w t ss ns k j
 
 module _ (w t : ℕ) (ss ns : List ℕ) where
-  -- the next core is closed
-  closed : (k core d : ℕ) → Found w t ss ns k core d → Closed w t ss ns k → Found w t ss ns (k + 1) core d
-  closed k zero d f c = below-more _ k f c
-  closed k (suc j) d f c = (
-    f .0,
-    record {
-      within = omega (arith, f .1 .within);
-      opened = f .1 .opened;
-      least = below-more _ k (f .1 .least) (λ o. absurd (omega arith));
-      lowest = f .1 .lowest;
-    },
-  )
-
-  -- it is open: the first that is, sooner due than the one found, or no sooner
-  first : (k d : ℕ) → Found w t ss ns k 0 d → Open w t ss ns k → Chosen w t ss ns (k + 1) k
-  first k d f o = record {
+  -- the next core is taken: it is open, and due before each open core so far
+  taken : (k : ℕ) → Open w t ss ns k → ((i : ℕ) → i < k → Open w t ss ns i → due w ss ns k < due w ss ns i) → Chosen w t ss ns (k + 1) k
+  taken k o h = record {
     within = omega arith;
     opened = o;
-    least = below-more _ k (λ i l p. absurd (omega (arith, f i l))) (λ p. omega arith);
-    lowest = λ i l p. absurd (omega (arith, f i l));
+    least = below-more _ k (λ i l p. omega (arith, h i l p)) (λ p. omega arith);
+    lowest = h;
   }
 
-  sooner : (k j d : ℕ) → Found w t ss ns k (suc j) d → Open w t ss ns k → due w ss ns k < d → Chosen w t ss ns (k + 1) k
-  sooner k j d f o h = record {
-    within = omega arith;
-    opened = o;
-    least = below-more _ k (λ i l p. omega (arith, f .0, f .1 .least i l p)) (λ p. omega arith);
-    lowest = λ i l p. omega (arith, f .0, f .1 .least i l p);
+  -- it is not: it is closed, or due no sooner than the one chosen
+  kept : (k j : ℕ) → Chosen w t ss ns k j → (Open w t ss ns k → due w ss ns j ≤ due w ss ns k) → Chosen w t ss ns (k + 1) j
+  kept k j c h = record {
+    within = omega (arith, c .within);
+    opened = c .opened;
+    least = below-more _ k (c .least) h;
+    lowest = c .lowest;
   }
 
-  later : (k j d : ℕ) → Found w t ss ns k (suc j) d → d ≤ due w ss ns k → Chosen w t ss ns (k + 1) j
-  later k j d f h = record {
-    within = omega (arith, f .1 .within);
-    opened = f .1 .opened;
-    least = below-more _ k (f .1 .least) (λ p. omega (arith, f .0));
-    lowest = f .1 .lowest;
-  }
-
-  -- and so of the best after it
+  -- and so by the two tests of the definition
   found-one : (k core d : ℕ) (o l : Bool) → isOpen w t (getD ss k 0) (getD ns k 0) ≡ o → ltb (due w ss ns k) d ≡ l → Found w t ss ns k core d
       → let b : Best = cond (o && (eqb core 0 || l)) (record { core = suc k; due = due w ss ns k }) (record { core = core; due = d }) in
       Found w t ss ns (k + 1) (b .core) (b .due)
-  found-one k core d false l p q f = closed k core d f (ltb-false _ _ p)
-  found-one k zero d true l p q f = (refl, first k d f (ltb-true _ _ p))
-  found-one k (suc j) d true true p q f = rw (eqb·suc-zero j) (refl, sooner k j d f (ltb-true _ _ p) (ltb-true _ _ q))
-  found-one k (suc j) d true false p q f = rw (eqb·suc-zero j) (f .0, later k j d f (ltb-false _ _ q))
+  found-one k zero d false l p q f = below-more _ k f (ltb-false _ _ p)
+  found-one k (suc j) d false l p q f = (f .0, kept k j (f .1) (λ o. absurd (omega (arith, ltb-false))))
+  found-one k zero d true l p q f = (refl, taken k (ltb-true _ _ p) (λ i m o. absurd (omega (arith, f i m))))
+  found-one k (suc j) d true true p q f =
+      rw (eqb·suc-zero j) (refl, taken k (ltb-true _ _ p) (λ i m o. omega (arith, ltb-true, f .0, f .1 .least i m o)))
+  found-one k (suc j) d true false p q f = rw (eqb·suc-zero j) (f .0, kept k j (f .1) (λ o. omega (arith, ltb-false, f .0)))
 
+  -- one core more
   found-next : (k : ℕ) (b : Best) → Found w t ss ns k (b .core) (b .due)
       → let a = better w t b (suc k) (getD ss k 0) (getD ns k 0) in Found w t ss ns (suc k) (a .core) (a .due)
   found-next k b f = rw (add-one k) at (found-one k (b .core) (b .due) (isOpen w t (getD ss k 0) (getD ns k 0)) (ltb (due w ss ns k) (b .due)) refl refl f)
@@ -112,6 +102,7 @@ closed-sum w k (s ∷ ss) (n ∷ ns) l h =
     omega (arith, h 0 (omega arith), closed-sum w k ss ns (omega arith) (λ i m. h (suc i) (omega arith)))
 
 module _ (w t : ℕ) (ss ns : List ℕ) (pos : 0 < w) (shares : sum ss ≡ w) (counts : sum ns ≡ t) (same : length ns ≡ length ss) where
+  -- some core is open: shares that sum to w and counts that sum to t leave one
   some : (core d : ℕ) → Found w t ss ns (length ss) core d → (j : ℕ) × (core ≡ suc j) × Chosen w t ss ns (length ss) j
   some zero d f =
       absurd (omega (arith, closed-sum w (t + 1) ss ns same f, ap (λ (x : ℕ). x * (t + 1)) shares, ap (λ (x : ℕ). x * w) counts))

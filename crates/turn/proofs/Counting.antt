@@ -4,10 +4,11 @@ use mathlib.Core.Path.{_≡_, refl}
 use mathlib.Core.List.{List}
 use native.Mathlib.Omega.{arith}
 use borrow.Author.Tests.{eq-eqb, ne-eqb}
+use lib.Dec.{eqb}
 use Rattle.units.specs.Limits.{coresLimit}
 use Rattle.lists.specs.Lists.{zeros}
-use Rattle.turn.specs.declared.Turn.{Turn}
-use Rattle.turn.specs.Turn.{more, counted}
+use Rattle.lists.proofs.Tests.{by-cases}
+use Rattle.turn.specs.Turn.{coreOf, more, counted, turnOf}
 
 module _ (w t : ℕ) (ns : List ℕ) where
   -- the last run of a cycle
@@ -21,3 +22,14 @@ module _ (w t : ℕ) (ns : List ℕ) where
   unfolding counted
   counted-more zero h n = absurd (omega arith)
   counted-more (suc j) h n = let e : suc j - 1 ≡ j = omega arith in rw (ne-eqb (t + 1) w n, e)
+
+  -- it is the core of the answer
+  pub counted-core : (core : ℕ) → counted w t ns core .core ≡ core
+  unfolding counted
+  counted-core zero = refl
+  counted-core (suc j) = by-cases (eqb (t + 1) w) (λ e. rw e) (λ e. rw e)
+
+-- and so of the turn step
+pub turn-core : (w t : ℕ) (ss ns : List ℕ) → turnOf w t ss ns .core ≡ coreOf w t ss ns
+unfolding turnOf
+turn-core w t ss ns = counted-core w t ns (coreOf w t ss ns)

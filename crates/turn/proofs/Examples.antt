@@ -1,7 +1,6 @@
 -- The turns of E7 and E8.
-use Prim.Native.Nat.{ℕ}
 use mathlib.Core.Path.{_≡_, refl}
-use mathlib.Core.List.{List, [], _∷_, _++_}
+use mathlib.Core.List.{[], _∷_, _++_}
 use Rattle.lists.specs.Lists.{zeros}
 use Rattle.turn.specs.Turn.{bestFrom, coreOf, counted, turnOf, fresh, turns}
 

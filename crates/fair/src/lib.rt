@@ -1,0 +1,1 @@
+// Runs are spread fairly: all of it stands in proofs/.
