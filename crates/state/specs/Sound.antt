@@ -23,9 +23,13 @@ runSound ln run =
 abbrev pub runEmpty : Run → Bool
 runEmpty run = eqb (run .core) 0 && eqb (run .deadline .0) 0
 
+-- the rule for the k-th run: sound if it is unfinished, else empty
+abbrev pub runRule : Line → State → ℕ → Bool
+runRule ln st k = cond (ltb k (st .live)) (runSound ln (runAt st k)) (runEmpty (runAt st k))
+
 -- a task has 0 to 8 unfinished runs, and each is sound
 abbrev pub runsSound : Line → State → Bool
-runsSound ln st = leb (st .live) runsLimit && allBelow runsLimit (λ k. cond (ltb k (st .live)) (runSound ln (runAt st k)) (runEmpty (runAt st k)))
+runsSound ln st = leb (st .live) runsLimit && allBelow runsLimit (λ k. runRule ln st k)
 
 -- the turn counts sum to the place in the turn cycle, which is below w
 abbrev pub turnSound : Line → State → Bool
@@ -39,8 +43,12 @@ lastSound st = leb (st .last .0) clockLimit && (st .had || eqb (st .last .0) 0)
 abbrev pub stateSound : Line → State → Bool
 stateSound ln st = runsSound ln st && turnSound ln st && lastSound st
 
+-- no run stands
+abbrev pub runsEmpty : State → Bool
+runsEmpty st = allBelow runsLimit (λ k. runEmpty (runAt st k))
+
 -- past the N tasks all numbers are 0
 abbrev pub stateEmpty : State → Bool
 stateEmpty st =
     eqb (sum (st .counts)) 0 && eqb (st .place) 0 && eqb (st .last .0) 0 && not (st .had) && eqb (st .live) 0
-    && allBelow runsLimit (λ k. runEmpty (runAt st k))
+    && runsEmpty st

@@ -26,9 +26,14 @@ impl State {
         let run = self.runs[0];
         let at = core - 1;
         let s = shares[at];
-        if (s.0 == 0) | (parts_of(shares) < 2) {
-            return 2 + run.deadline.0;
+        let moves = (1 < parts_of(shares)) & (0 < s.0);
+        let lowest = first_core(shares) == at;
+        if moves & !lowest {
+            return 0;
         }
-        if first_core(shares) == at { 1 } else { 0 }
+        if moves & lowest {
+            return 1;
+        }
+        2 + run.deadline.0
     }
 }

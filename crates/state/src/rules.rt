@@ -6,22 +6,28 @@ use units::limits::CLOCK;
 use units::limits::CORES;
 use units::limits::RUNS;
 ghost use mathlib.Core.Path.{_≡_};
+ghost use mathlib.Core.Bool.{cond};
 ghost use Prim.Native.Nat.{_≤_};
+ghost use lib.Dec.{eqb};
 ghost use Rattle.units.specs.Limits.{periodLimit};
 ghost use Rattle.lists.specs.Lists.{sum};
-ghost use Rattle.state.specs.Sound.{runSound, runEmpty, runsSound, turnSound, lastSound, stateSound, stateEmpty};
+ghost use Rattle.state.specs.Sound.{runSound, runEmpty, runsSound, turnSound, lastSound, stateSound, runsEmpty, stateEmpty};
 
-// The sum of the turn counts, which may need more than 32 bits.
-fn sum_of(counts: [u32; CORES]) -> u64
-    ensures { λ r. ⌜ r ≡ sum counts ⌝ }
+// The turn counts sum to this number: each is taken from what is left of it.
+fn sums_to(counts: [u32; CORES], total: u32) -> bool
+    ensures { λ r. ⌜ r ≡ eqb (sum counts) total ⌝ }
 {
-    let mut sum: u64 = 0;
+    let mut left = total;
     let mut p: usize = 0;
     while p < CORES {
-        sum += counts[p] as u64;
+        let n = counts[p];
+        if left < n {
+            return false;
+        }
+        left -= n;
         p += 1;
     }
-    sum
+    left == 0
 }
 
 impl Run {
@@ -48,6 +54,17 @@ impl Run {
     {
         (self.core == 0) & (self.deadline.0 == 0)
     }
+
+    // Sound among the unfinished runs, empty past them.
+    fn rule(self, line: Line, live: bool) -> bool
+        requires { ⌜ line .period .0 ≤ periodLimit ⌝ }
+        ensures { λ r. ⌜ r ≡ cond live (runSound line self) (runEmpty self) ⌝ }
+    {
+        if live {
+            return self.sound(line);
+        }
+        self.empty()
+    }
 }
 
 impl State {
@@ -62,14 +79,8 @@ impl State {
         let mut k: usize = 0;
         while k < RUNS {
             let run = self.runs[k];
-            if k < self.live {
-                if !run.sound(line) {
-                    return false;
-                }
-            } else {
-                if !run.empty() {
-                    return false;
-                }
+            if !run.rule(line, k < self.live) {
+                return false;
             }
             k += 1;
         }
@@ -81,8 +92,7 @@ impl State {
         ensures { λ r. ⌜ r ≡ turnSound line self ⌝ }
     {
         let counts = self.counts;
-        let sum = sum_of(counts);
-        (sum == self.place as u64) & (self.place < line.weight.0)
+        sums_to(counts, self.place) & (self.place < line.weight.0)
     }
 
     // A last release is within the clock's range, and 0 where there was none.
@@ -100,15 +110,10 @@ impl State {
         self.runs_sound(line) & self.turn_sound(line) & self.last_sound()
     }
 
-    // Past the N tasks all numbers are 0.
-    pub fn empty(self) -> bool
-        ensures { λ r. ⌜ r ≡ stateEmpty self ⌝ }
+    // No run stands.
+    fn runs_empty(self) -> bool
+        ensures { λ r. ⌜ r ≡ runsEmpty self ⌝ }
     {
-        let counts = self.counts;
-        let sum = sum_of(counts);
-        if !((sum == 0) & (self.place == 0) & (self.last.0 == 0) & !self.had & (self.live == 0)) {
-            return false;
-        }
         let mut k: usize = 0;
         while k < RUNS {
             let run = self.runs[k];
@@ -118,5 +123,18 @@ impl State {
             k += 1;
         }
         true
+    }
+
+    // Past the N tasks all numbers are 0.
+    pub fn empty(self) -> bool
+        ensures { λ r. ⌜ r ≡ stateEmpty self ⌝ }
+    {
+        let counts = self.counts;
+        sums_to(counts, 0)
+            & (self.place == 0)
+            & (self.last.0 == 0)
+            & !self.had
+            & (self.live == 0)
+            & self.runs_empty()
     }
 }

@@ -5,7 +5,8 @@ use planning::Line;
 use turn::turn_of;
 use units::ticks::Ticks;
 ghost use mathlib.Core.Path.{_≡_};
-ghost use Rattle.state.specs.Runs.{withRun, withoutRun};
+ghost use Prim.Native.Nat.{_<_};
+ghost use Rattle.state.specs.Runs.{Releasable, takenRun, withoutRun};
 
 // The task after a release, with the run's core and deadline.
 pub struct Taken {
@@ -16,7 +17,10 @@ pub struct Taken {
 
 impl State {
     // One run more, counted in the turn cycle.
-    pub fn with_run(self, line: Line, time: Ticks) -> Taken {
+    pub fn with_run(self, line: Line, time: Ticks) -> Taken
+        requires { ⌜ Releasable line self (time .0) ⌝ }
+        ensures { λ r. ⌜ r ≡ takenRun line self (time .0) ⌝ }
+    {
         let shares = line.shares;
         let counts = self.counts;
         let turn = turn_of(line.weight, self.place, shares, counts);
@@ -43,7 +47,10 @@ impl State {
     }
 
     // Without the oldest run: the others move up.
-    pub fn without_run(self) -> State {
+    pub fn without_run(self) -> State
+        requires { ⌜ 0 < self .live ⌝ }
+        ensures { λ r. ⌜ r ≡ withoutRun self ⌝ }
+    {
         let r1 = self.runs[1];
         let r2 = self.runs[2];
         let r3 = self.runs[3];

@@ -1,0 +1,27 @@
+use borrow.Author.Needs.{needs}
+use Rattle.state.specs.Runs.{withRun, takenRun}
+use Rattle.state.proofs.State.with_run.Statement.{statement}
+use Rattle.state.proofs.State.with_run.Tie as tie
+
+turn-of-requires : tie.Need-turn-of-requires
+turn-of-requires c κs = search needs
+
+add-due : tie.Need-add-due
+add-due c = search needs
+
+mul-t14 : tie.Need-mul-t14
+mul-t14 c = search needs
+
+element-set-from-state : tie.Need-element-set-from-state
+element-set-from-state c = search needs
+
+add-state : tie.Need-add-state
+add-state c = search needs
+
+returns : tie.Need-returns
+unfolding withRun takenRun
+returns c = rw (c .before .before .before .turn-of .ensures)
+
+pub with-run-spec : {M : Type 1} → statement M
+with-run-spec =
+    tie.close (tie.spec turn-of-requires add-due mul-t14 element-set-from-state add-state returns)
