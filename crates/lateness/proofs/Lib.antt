@@ -10,3 +10,4 @@ pub mod Bounded
 pub mod Reached
 pub mod Words
 pub mod Tasks
+pub mod Formulas
