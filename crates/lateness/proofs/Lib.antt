@@ -9,3 +9,4 @@ pub mod Bounded
 pub mod Reached
 pub mod Words
 pub mod Tasks
+pub mod Formulas

@@ -31,6 +31,7 @@ pub record Modest (l p : ℕ) (h ln : Line) : Type 0 where
   pub lower-period : ln .period .0 ≤ periodLimit
 
 module _ (pl : Plan) (k : PlanKept pl) (p : ℕ) where
+  -- those of a plan
   pub modest : Modest (pl .common) p (upperOn p (pl .lines)) (lowerOn p (pl .lines))
   unfolding emptyLine
   modest =
@@ -57,6 +58,10 @@ module _ (pl : Plan) (k : PlanKept pl) (p : ℕ) where
       (over-pair p (λ ln. push rs p ln + pl .common * (2 * ln .cost .0)) (empty-load rs p (pl .common)) (pl .lines) u w ∙ omega arith)
       (omega (arith, over-pair p (shareOn p) (empty-share p) (pl .lines) u w))
 
+  -- and 0 past the last core
+  pub fixed-beyond : (rs : List ℕ) → coresLimit ≤ p → fixedLate (pl .common) rs (pl .lines) p ≡ 0
+  fixed-beyond rs h = fixed-alone (pl .common) (k .common-some) rs (pl .lines) p (no-mover (k .structure) p (omega (arith, k .cores-few)))
+
   -- numbers small enough to work with
   small-pair : (rs : List ℕ) → most rs ≤ reachLimit → p < coresLimit
       → SmallPair (pl .common) rs p (upperOn p (pl .lines)) (lowerOn p (pl .lines))
@@ -70,18 +75,17 @@ module _ (pl : Plan) (k : PlanKept pl) (p : ℕ) where
         lower = record { core = h; share = omega arith; reach = omega (arith, most-ge rs (firstCore (rowOf (lowerOn p (pl .lines))))); period = m .lower-period; cost = m .lower-cost };
       }
 
-  -- and 0 past the last core
-  pub fixed-beyond : (rs : List ℕ) → coresLimit ≤ p → fixedLate (pl .common) rs (pl .lines) p ≡ 0
-  fixed-beyond rs h = fixed-alone (pl .common) (k .common-some) rs (pl .lines) p (no-mover (k .structure) p (omega (arith, k .cores-few)))
-
   -- the movers as the code keeps them
   module _ (ms : Movers) (m : MoversOf (pl .lines) ms) (rs : List ℕ) (h : p < coresLimit) where
+    -- their numbers are small enough
     pub movers-small : most rs ≤ reachLimit → SmallPair (pl .common) rs p (getD (ms .upper) p noLine) (getD (ms .lower) p noLine)
     movers-small b = rw (m .uppers p h, m .lowers p h) (small-pair rs b h)
 
+    -- their reach is that of the plan's
     pub movers-reach : reachOn (pl .common) rs p (getD (ms .upper) p noLine) (getD (ms .lower) p noLine)
         ≡ reachOn (pl .common) rs p (upperOn p (pl .lines)) (lowerOn p (pl .lines))
     movers-reach = rw (m .uppers p h, m .lowers p h)
 
+    -- and so is the bound of the fixed tasks
     pub movers-late : pairLate (pl .common) rs p (getD (ms .upper) p noLine) (getD (ms .lower) p noLine) ≡ fixedLate (pl .common) rs (pl .lines) p
     movers-late = rw (m .uppers p h, m .lowers p h) (sym (fixed-pair rs))

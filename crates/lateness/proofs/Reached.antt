@@ -25,7 +25,7 @@ zeros-after (x ∷ xs) k (suc q) = zeros-after xs k q
 
 module _ (l : ℕ) (lns : List Line) where
   -- one for each core
-  reaches-length : (p : ℕ) → length (reaches l lns p) ≡ p
+  pub reaches-length : (p : ℕ) → length (reaches l lns p) ≡ p
   unfolding reaches
   reaches-length zero = refl
   reaches-length (suc p) =
@@ -35,6 +35,7 @@ module _ (l : ℕ) (lns : List Line) where
   abbrev pub reached : ℕ → List ℕ
   reached p = reaches l lns p ++ zeros (coresLimit - p)
 
+  -- none is known at first
   pub reached-none : zeros coresLimit ≡ reached 0
   unfolding reaches
   reached-none = refl
@@ -59,7 +60,7 @@ module _ (l : ℕ) (lns : List Line) where
       ∙ sym (append-assoc known (reachOn l known p (upperOn p lns) (lowerOn p lns) ∷ []) (zeros k))
       ∙ ap (λ (n : ℕ). reaches l lns n ++ zeros k) (sym (add-one p))
 
-  -- all
+  -- all are known at last
   pub reached-all : (p : ℕ) → p ≡ coresLimit → reached p ≡ reaches l lns coresLimit
   reached-all p e = rw e (append-nil (reaches l lns coresLimit))
 

@@ -21,17 +21,19 @@ pos-sub a (suc b) = refl
 sub-mag : (a b n : ℕ) → a < n → b < n → mag (subℕ a b) < n
 sub-mag a b n h k = by-cases (ltb a b) (λ e. rw e (omega arith)) (λ e. rw e (omega arith))
 
--- a number
+-- a number fits
 pub pos-fits : (a : ℕ) → a < 2 ^ 63 → SFits w64 (pos a)
 pos-fits a h = record { sfits = h }
 
 module _ (a b : ℕ) (h : a < 2 ^ 63) (k : b < 2 ^ 63) where
+  -- what the code subtracts
   less-is : toZ w64 a -ℤ toZ w64 b ≡ subℕ a b
   less-is = ap₂ _-ℤ_ (toZ-pos w64 a h) (toZ-pos w64 b k) ∙ pos-sub a b
 
-  -- a difference
+  -- the difference fits
   pub sub-fits : SFits w64 (toZ w64 a -ℤ toZ w64 b)
   sub-fits = rw less-is (record { sfits = sub-mag a b (2 ^ 63) h k })
 
+  -- and is the difference of the naturals
   pub sub-is : toZ w64 (ofZ w64 (toZ w64 a -ℤ toZ w64 b)) ≡ subℕ a b
   sub-is = toZ-ofZ w64 (toZ w64 a -ℤ toZ w64 b) sub-fits ∙ less-is
