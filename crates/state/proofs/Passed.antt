@@ -1,0 +1,31 @@
+-- What a call says of a task that its own refusals let pass.
+use Prim.Native.Nat.{ℕ, _≤_, _<_}
+use mathlib.Core.Path.{_≡_}
+use mathlib.Core.Bool.{false}
+use native.Mathlib.Omega.{arith}
+use borrow.Author.Tests.{eqb-false}
+use lib.Dec.{eqb}
+use Rattle.units.specs.Limits.{runsLimit}
+use Rattle.lists.proofs.Tests.{by-cases}
+use Rattle.planning.specs.declared.Line.{Line}
+use Rattle.state.specs.declared.State.{State}
+use Rattle.state.specs.Own.{early, releaseOwn, finishOwn}
+
+module _ (ln : Line) (st : State) (t : ℕ) (e : releaseOwn ln st t ≡ 0) where
+  -- a release is not early
+  pub not-early : early ln st t ≡ false
+  not-early = by-cases (early ln st t) (λ b. absurd (omega (arith, rw b at e))) (λ b. b)
+
+  -- and finds room for a run
+  pub has-room : st .live ≤ runsLimit → st .live < runsLimit
+  has-room h =
+      by-cases (eqb (st .live) runsLimit)
+      (λ b. absurd (omega (arith, rw (not-early, b) at e)))
+      (λ b. omega (arith, eqb-false (st .live) runsLimit b))
+
+-- a finish finds a run
+pub has-run : (st : State) → finishOwn st ≡ 0 → 0 < st .live
+has-run st e =
+    by-cases (eqb (st .live) 0)
+    (λ b. absurd (omega (arith, rw b at e)))
+    (λ b. omega (arith, eqb-false (st .live) 0 b))
