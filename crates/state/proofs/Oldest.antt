@@ -16,8 +16,8 @@ runs-long rs e = sym (length-map rs (the-field .into)) ∙ e
 
 -- seven move up and none comes last
 pub moved-up : (rs : List Run) → length rs ≡ runsLimit
-    → getD rs 1 noRun ∷ getD rs 2 noRun ∷ getD rs 3 noRun ∷ getD rs 4 noRun ∷ getD rs 5 noRun ∷ getD rs 6 noRun ∷ getD rs 7 noRun ∷ noRun ∷ []
-    ≡ drop 1 rs ++ (noRun ∷ [])
+    → drop 1 rs ++ (noRun ∷ [])
+    ≡ getD rs 1 noRun ∷ getD rs 2 noRun ∷ getD rs 3 noRun ∷ getD rs 4 noRun ∷ getD rs 5 noRun ∷ getD rs 6 noRun ∷ getD rs 7 noRun ∷ noRun ∷ []
 moved-up rs e =
     rw (
       drop-cons rs 1 noRun (omega arith),
