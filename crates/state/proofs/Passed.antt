@@ -1,15 +1,19 @@
--- What a call says of a task that its own refusals let pass.
+-- What holds of a task whose own refusals let a call pass.
 use Prim.Native.Nat.{ℕ, _≤_, _<_}
 use mathlib.Core.Path.{_≡_}
 use mathlib.Core.Bool.{false}
 use native.Mathlib.Omega.{arith}
 use borrow.Author.Tests.{eqb-false}
 use lib.Dec.{eqb}
-use Rattle.units.specs.Limits.{runsLimit}
+use Rattle.units.specs.Limits.{periodLimit, commonLimit, clockLimit, runsLimit}
+use Rattle.lists.specs.Lists.{sum}
 use Rattle.lists.proofs.Tests.{by-cases}
 use Rattle.planning.specs.declared.Line.{Line}
+use Rattle.planning.specs.Plan.{rowOf}
 use Rattle.state.specs.declared.State.{State}
 use Rattle.state.specs.Own.{early, releaseOwn, finishOwn}
+use Rattle.state.specs.Runs.{Releasable}
+use Rattle.state.proofs.Facts.{Facts, turnable}
 
 module _ (ln : Line) (st : State) (t : ℕ) (e : releaseOwn ln st t ≡ 0) where
   -- a release is not early
@@ -22,6 +26,12 @@ module _ (ln : Line) (st : State) (t : ℕ) (e : releaseOwn ln st t ≡ 0) where
       by-cases (eqb (st .live) runsLimit)
       (λ b. absurd (omega (arith, rw (not-early, b) at e)))
       (λ b. omega (arith, eqb-false (st .live) runsLimit b))
+
+  -- so it can be taken, where the plan's numbers are in range and the shares sum to the weight
+  pub releasable : Facts ln st → ln .weight .0 ≤ commonLimit → sum (rowOf ln) ≡ ln .weight .0 → t ≤ clockLimit → ln .period .0 ≤ periodLimit
+      → Releasable ln st t
+  releasable f small shares time period =
+      record { turn = turnable ln st f small shares; room = has-room (f .few); time = time; period = period }
 
 -- a finish finds a run
 pub has-run : (st : State) → finishOwn st ≡ 0 → 0 < st .live
