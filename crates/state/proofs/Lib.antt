@@ -1,2 +1,9 @@
 pub mod Sums
 pub mod Oldest
+pub mod RunFacts
+pub mod Facts
+pub mod Shape
+pub mod Passed
+pub mod Taken
+pub mod Ended
+pub mod Fresh

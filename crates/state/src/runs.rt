@@ -27,6 +27,10 @@ impl State {
         let due = time.0 + line.period.0;
         let deadline = Ticks(due);
         let core = turn.core;
+        let run = Run {
+            core: core,
+            deadline: deadline,
+        };
         let counted = turn.counts;
         let at = self.live;
         let mut state = self;
@@ -34,10 +38,7 @@ impl State {
         state.place = turn.place;
         state.last = time;
         state.had = true;
-        state.runs[at] = Run {
-            core: core,
-            deadline: deadline,
-        };
+        state.runs[at] = run;
         state.live = at + 1;
         Taken {
             state: state,

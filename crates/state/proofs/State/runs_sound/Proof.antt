@@ -11,6 +11,7 @@ use Rattle.state.specs.Sound.{runRule}
 use Rattle.state.proofs.State.runs_sound.Statement.{statement}
 use Rattle.state.proofs.State.runs_sound.Tie as tie
 
+-- the runs so far keep their rules
 abbrev Inv-loop : tie.InvT-loop
 Inv-loop line self k₀ k = (k ≤ runsLimit) × (allBelow k (λ j. runRule line self j) ≡ true)
 

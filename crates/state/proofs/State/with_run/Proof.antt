@@ -9,11 +9,11 @@ turn-of-requires c κs = search needs
 add-due : tie.Need-add-due
 add-due c = search needs
 
-mul-t14 : tie.Need-mul-t14
-mul-t14 c = search needs
+mul-run : tie.Need-mul-run
+mul-run c = search needs
 
-element-set-from-state : tie.Need-element-set-from-state
-element-set-from-state c = search needs
+element-set-from-run : tie.Need-element-set-from-run
+element-set-from-run c = search needs
 
 add-state : tie.Need-add-state
 add-state c = search needs
@@ -24,4 +24,4 @@ returns c = rw (c .before .before .before .turn-of .ensures)
 
 pub with-run-spec : {M : Type 1} → statement M
 with-run-spec =
-    tie.close (tie.spec turn-of-requires add-due mul-t14 element-set-from-state add-state returns)
+    tie.close (tie.spec turn-of-requires add-due mul-run element-set-from-run add-state returns)

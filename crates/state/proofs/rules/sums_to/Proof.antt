@@ -10,6 +10,7 @@ use Rattle.state.proofs.Sums.{exceeds, used-up}
 use Rattle.state.proofs.rules.sums_to.Statement.{statement}
 use Rattle.state.proofs.rules.sums_to.Tie as tie
 
+-- what is left and the counts so far are the number
 abbrev Inv-loop : tie.InvT-loop
 Inv-loop total counts left₀ p₀ left p = (p ≤ coresLimit) × (left + sum (take p counts) ≡ total)
 
