@@ -5,3 +5,4 @@ pub mod Table
 pub mod Common
 pub mod Within
 pub mod Examples
+pub mod Signed

@@ -4,7 +4,6 @@ pub mod Gathered
 pub mod Pair
 pub mod Modest
 pub mod Range
-pub mod Signed
 pub mod Bounded
 pub mod Reached
 pub mod Words

@@ -13,7 +13,7 @@ use Rattle.planning.specs.declared.Line.{Line}
 use Rattle.planning.specs.Plan.{emptyLine, rowOf}
 use Rattle.lateness.specs.Lateness.{overMovers, shareOn, reachOf, push, reachOn, fixedLate}
 use Rattle.lateness.proofs.Pair.{empty-share, empty-load, over-nobody}
-use Rattle.lateness.proofs.Signed.{pos-sub}
+use Rattle.arith.proofs.Signed.{pos-sub}
 
 -- a reach R is D + T, so that R + T is D + 2T
 pub reach-says : (r t : ℕ) → pos (r + t) ≡ subℕ r t +ℤ pos (2 * t)

@@ -11,7 +11,7 @@ use Rattle.lists.specs.Lists.{parts}
 use Rattle.planning.specs.Plan.{rowOf}
 use Rattle.lateness.specs.Lateness.{reachOf}
 use native.Mathlib.Omega.{arith}
-use Rattle.lateness.proofs.Signed.{pos-fits, sub-fits, sub-is}
+use Rattle.arith.proofs.Signed.{pos-fits, sub-fits, sub-is}
 use borrow.Author.Needs.{needs}
 use Rattle.lateness.proofs.bounds.late_of.Statement.{statement}
 use Rattle.lateness.proofs.bounds.late_of.Tie as tie
