@@ -1,23 +1,9 @@
 -- A number that every period divides is their common period exactly if its quotients by them have no common divisor above 1.
 use Prim.Native.Nat.{ℕ, zero, suc, _*_, _/_, _<_, _∣_}
-use mathlib.Core.Path.{_≡_, refl, sym, ap, _∙_}
+use mathlib.Core.Path.{_≡_, sym, ap, _∙_}
 use mathlib.Core.Logic.{_↔_}
 use mathlib.Core.List.{List, [], _∷_, map}
-use native.Mathlib.Nat.{
-  one-mul,
-  mul-one,
-  dvd-trans,
-  dvd-zero,
-  dvd-mul-right,
-  dvd-of-mul-dvd-mul-left,
-  dvd-of-mul-dvd-mul-right,
-  mul-dvd-mul-left,
-  pos-of-dvd-of-pos,
-  eq-one-of-dvd-one,
-  div-mul-cancel,
-  mul-div-cancel',
-  mul-div-assoc,
-}
+use native.Mathlib.Nat.{one-mul, mul-one, dvd-trans, dvd-zero, dvd-mul-right, dvd-of-mul-dvd-mul-left, dvd-of-mul-dvd-mul-right, mul-dvd-mul-left, pos-of-dvd-of-pos, eq-one-of-dvd-one, div-mul-cancel, mul-div-cancel', mul-div-assoc}
 use native.Mathlib.Omega.{arith}
 use lib.ListN.{length, getD}
 use Rattle.arith.specs.Divisor.{gcd}
