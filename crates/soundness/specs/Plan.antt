@@ -1,7 +1,6 @@
 -- A plan is sound if every rule holds for every task and every core.
 use Prim.Native.Nat.{ℕ, zero, suc}
 use mathlib.Core.Bool.{Bool, true, cond, _&&_}
-use mathlib.Core.List.{List, [], _∷_}
 use lib.Dec.{ltb}
 use lib.ListN.{getD}
 use Rattle.units.specs.Limits.{coresLimit, tasksLimit}

@@ -1,7 +1,7 @@
 -- The rules of soundness that speak of a plan, document 01, "Refusal numbers", one by one. Cores are counted from 0.
 use Prim.Native.Nat.{ℕ}
-use mathlib.Core.Bool.{Bool, true, _&&_, _||_, not}
-use mathlib.Core.List.{List, [], _∷_, map}
+use mathlib.Core.Bool.{Bool, _&&_, _||_, not}
+use mathlib.Core.List.{List, map}
 use lib.Dec.{ltb, leb, eqb}
 use lib.ListN.{take}
 use Rattle.units.specs.Limits.{coresLimit, tasksLimit, periodLimit, commonLimit}

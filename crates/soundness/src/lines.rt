@@ -3,10 +3,12 @@ use planning::Line;
 use units::limits::CORES;
 use units::limits::PERIOD;
 use units::share::Share;
+ghost use mathlib.Core.Bool.{true};
 ghost use mathlib.Core.Path.{_≡_};
 ghost use Rattle.lists.specs.Lists.{sum};
 ghost use Rattle.units.specs.Units.{nums};
-ghost use Rattle.soundness.specs.Rules.{lineIn, lineEmpty};
+ghost use Rattle.soundness.specs.Rules.{lineIn, weightIs, sharesSum, lineEmpty};
+ghost use Rattle.soundness.specs.Plan.{lineSound};
 
 // The sum of a row of shares, which may need more than 32 bits.
 pub fn sum_of(shares: [Share; CORES]) -> u64
@@ -29,7 +31,35 @@ pub fn line_in(line: Line) -> bool
     (1 <= line.cost.0) & (line.cost.0 <= line.period.0) & (line.period.0 <= PERIOD as u64)
 }
 
-// All numbers are 0.
+// The weight is C × L / T: T goes into C × L as often, and once more would be too much.
+pub fn weight_is(common: u32, line: Line) -> bool
+    requires { ⌜ lineIn line ≡ true ⌝ }
+    ensures { λ r. ⌜ r ≡ weightIs common line ⌝ }
+{
+    let whole = line.cost.0 * common as u64;
+    let part = line.weight.0 as u64 * line.period.0;
+    (part <= whole) & (whole < part + line.period.0)
+}
+
+// The shares sum to the weight.
+pub fn shares_sum(line: Line) -> bool
+    ensures { λ r. ⌜ r ≡ sharesSum line ⌝ }
+{
+    let shares = line.shares;
+    sum_of(shares) == line.weight.0 as u64
+}
+
+// All rules for a task in use.
+pub fn line_sound(common: u32, line: Line) -> bool
+    ensures { λ r. ⌜ r ≡ lineSound common line ⌝ }
+{
+    if !line_in(line) {
+        return false;
+    }
+    weight_is(common, line) & shares_sum(line)
+}
+
+// The rule past the last task: all numbers are 0.
 pub fn line_empty(line: Line) -> bool
     ensures { λ r. ⌜ r ≡ lineEmpty line ⌝ }
 {

@@ -1,13 +1,141 @@
 // What the tasks put on each core.
 use planning::Line;
 use units::limits::CORES;
+use units::limits::TASKS;
 use units::share::Share;
+ghost use mathlib.Core.Path.{_≡_};
+ghost use mathlib.Core.List.{map};
+ghost use Prim.Native.Nat.{ℕ, _≤_, _<_, max};
+ghost use lib.ListN.{getD};
+ghost use Rattle.units.specs.Limits.{coresLimit, commonLimit};
+ghost use Rattle.units.specs.Units.{nums};
+ghost use Rattle.lists.specs.Lists.{sum};
+ghost use Rattle.assignment.specs.Movers.{firstCore};
+ghost use Rattle.planning.specs.Plan.{rowOf};
+ghost use Rattle.soundness.specs.Tally.{noTally, tallyOf, withFixed, withMover, withShares, Light, Weighed};
 
-// For each core: its load, its movers, those whose first core it is, the heaviest mover and the heaviest fixed task.
+// Of one core: its load, its movers, those whose first core it is, the heaviest mover and the heaviest fixed task.
 pub struct Tally {
-    pub load: [u64; CORES],
-    pub movers: [u32; CORES],
-    pub firsts: [u32; CORES],
-    pub mover: [u32; CORES],
-    pub fixed: [u32; CORES],
+    pub load: Share,
+    pub movers: u32,
+    pub firsts: u32,
+    pub mover: Share,
+    pub fixed: Share,
+}
+
+// The heavier of two weights.
+fn heavier(a: Share, b: Share) -> Share
+    ensures { λ r. ⌜ r .0 ≡ max (a .0) (b .0) ⌝ }
+{
+    if a.0 < b.0 { b } else { a }
+}
+
+impl Tally {
+    pub const NONE: Tally = Tally {
+        load: Share::EMPTY,
+        movers: 0,
+        firsts: 0,
+        mover: Share::EMPTY,
+        fixed: Share::EMPTY,
+    };
+
+    // With one fixed task more.
+    pub fn with_fixed(self, weight: Share) -> Tally
+        requires { ⌜ Light self × (weight .0 ≤ commonLimit) ⌝ }
+        ensures { λ r. ⌜ r ≡ withFixed (weight .0) self ⌝ }
+    {
+        let fixed = self.fixed;
+        let sum = weight.0 + self.load.0;
+        let load = Share(sum);
+        let heaviest = heavier(weight, fixed);
+        let mut tally = self;
+        tally.load = load;
+        tally.fixed = heaviest;
+        tally
+    }
+
+    // With one mover more, of which it is the first core or not.
+    pub fn with_mover(self, weight: Share, share: Share, first: bool) -> Tally
+        requires { ⌜ Light self × (share .0 ≤ commonLimit) ⌝ }
+        ensures { λ r. ⌜ r ≡ withMover (weight .0) (share .0) first self ⌝ }
+    {
+        let mut firsts = self.firsts;
+        if first {
+            firsts = 1 + firsts;
+        }
+        let mover = self.mover;
+        let sum = share.0 + self.load.0;
+        let load = Share(sum);
+        let heaviest = heavier(weight, mover);
+        let mut tally = self;
+        tally.load = load;
+        tally.movers = 1 + self.movers;
+        tally.firsts = firsts;
+        tally.mover = heaviest;
+        tally
+    }
+}
+
+// The lowest core with a share, CORES where there is none.
+fn first_core(shares: [Share; CORES]) -> usize
+    ensures { λ r. ⌜ r ≡ firstCore (nums shares) ⌝ }
+{
+    let mut p: usize = 0;
+    while p < CORES {
+        let s = shares[p];
+        if 0 < s.0 {
+            return p;
+        }
+        p += 1;
+    }
+    p
+}
+
+// With a mover's shares.
+fn with_shares(
+    tallies: [Tally; CORES],
+    weight: Share,
+    shares: [Share; CORES],
+    first: usize,
+) -> [Tally; CORES]
+    requires { ⌜ ((p : ℕ) → p < coresLimit → Light (getD tallies p noTally)) × (sum (nums shares) ≤ commonLimit) ⌝ }
+    ensures { λ r. ⌜ ((p : ℕ) → p < coresLimit → getD r p noTally ≡ withShares (weight .0) first (nums shares) p (getD tallies p noTally)) ⌝ }
+{
+    let mut all = tallies;
+    let mut p: usize = 0;
+    while p < CORES {
+        let s = shares[p];
+        if 0 < s.0 {
+            let t = all[p];
+            all[p] = t.with_mover(weight, s, first == p);
+        }
+        p += 1;
+    }
+    all
+}
+
+// What the tasks put on each core: a task is fixed if its first share is its weight.
+pub fn tallies_of(lines: [Line; TASKS]) -> [Tally; CORES]
+    requires { ⌜ Weighed lines ⌝ }
+    ensures { λ r. ⌜ ((p : ℕ) → p < coresLimit → getD r p noTally ≡ tallyOf p (map rowOf lines)) ⌝ }
+{
+    let mut tallies = [Tally::NONE; CORES];
+    let mut i: usize = TASKS;
+    while 0 < i {
+        i -= 1;
+        let line = lines[i];
+        let shares = line.shares;
+        let weight = line.weight;
+        let first = first_core(shares);
+        if first < CORES {
+            let s = shares[first];
+            if s.0 == weight.0 {
+                let t = tallies[first];
+                tallies[first] = t.with_fixed(weight);
+            } else {
+                tallies = with_shares(tallies, weight, shares, first);
+            }
+        }
+    }
+    tallies
 }

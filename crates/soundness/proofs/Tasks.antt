@@ -1,0 +1,176 @@
+-- The tasks of a plan tested from the last to the first.
+use Prim.Native.Nat.{ℕ, _+_, _*_, _/_, _%_, _≤_, _<_, _∣_}
+use mathlib.Core.Path.{_≡_, refl, sym, ap, ap₂, _∙_}
+use mathlib.Core.Bool.{Bool, true, false, _&&_}
+use mathlib.Core.List.{List, [], _∷_, map}
+use native.Mathlib.Omega.{arith}
+use native.Mathlib.Numerals.{add-one}
+use native.Mathlib.Nat.{mod-eq-zero-of-dvd, dvd-of-mod-eq-zero, div-mul-cancel}
+use lib.Dec.{leb, eqb}
+use lib.ListN.{length, getD, take, drop, length-map, drop-of-length-le, List·getD-map}
+use lib.Seq.{drop-cons, getD-take, length-take-le}
+use borrow.Author.Tests.{leb-true, eqb-true, eqb-false, eq-eqb, lt-ltb, le-ltb}
+use Rattle.units.specs.Limits.{coresLimit, tasksLimit, commonLimit}
+use Rattle.lists.proofs.Tests.{by-cases, and-left, and-right, and-true, same-bool}
+use Rattle.arith.specs.Divisor.{gcd}
+use Rattle.arith.specs.Period.{common}
+use Rattle.arith.proofs.Common.{Each, common-each}
+use Rattle.arith.proofs.Cofactor.{gcdAll, cofactors, cofactor-common, common-cofactor}
+use Rattle.planning.specs.declared.Line.{Line}
+use Rattle.planning.specs.declared.Plan.{Plan}
+use Rattle.planning.specs.Plan.{noLine}
+use Rattle.soundness.specs.Rules.{numbersIn, commonIs, lineEmpty}
+use Rattle.soundness.specs.Plan.{allBelow, lineSound, lineOk}
+use Rattle.soundness.specs.Tally.{timesIn}
+use Rattle.soundness.proofs.Below.{below-suc}
+
+-- cores, tasks and the common period in their ranges, and a line for each of sixty-four tasks
+pub record Numbers (pl : Plan) : Type 0 where
+  pub cores-some : 0 < pl .cores
+  pub cores-few : pl .cores ≤ coresLimit
+  pub count-some : 0 < pl .count
+  pub count-few : pl .count ≤ tasksLimit
+  pub common-some : 0 < pl .common
+  pub common-small : pl .common ≤ commonLimit
+  pub long : length (pl .lines) ≡ tasksLimit
+
+pub numbers : (pl : Plan) → numbersIn pl ≡ true → length (pl .lines) ≡ tasksLimit → Numbers pl
+numbers pl e h =
+    let a : Bool = leb 1 (pl .cores) in
+    let b : Bool = leb (pl .cores) coresLimit in
+    let c : Bool = leb 1 (pl .count) in
+    let d : Bool = leb (pl .count) tasksLimit in
+    let f : Bool = leb 1 (pl .common) in
+    let g : Bool = leb (pl .common) commonLimit in
+    let e₅ : (a && b && c && d && f) ≡ true = and-left (a && b && c && d && f) g e in
+    let e₄ : (a && b && c && d) ≡ true = and-left (a && b && c && d) f e₅ in
+    let e₃ : (a && b && c) ≡ true = and-left (a && b && c) d e₄ in
+    let e₂ : (a && b) ≡ true = and-left (a && b) c e₃ in
+    record {
+      cores-some = leb-true 1 (pl .cores) (and-left a b e₂);
+      cores-few = leb-true (pl .cores) coresLimit (and-right a b e₂);
+      count-some = leb-true 1 (pl .count) (and-right (a && b) c e₃);
+      count-few = leb-true (pl .count) tasksLimit (and-right (a && b && c) d e₄);
+      common-some = leb-true 1 (pl .common) (and-right (a && b && c && d) f e₅);
+      common-small = leb-true (pl .common) commonLimit (and-right (a && b && c && d && f) g e);
+      long = h;
+    }
+
+-- a period that goes into L divides it
+times : (l t q : ℕ) → q ≡ timesIn l t → (q ≡ 0 → ⊥) → (t ∣ l) × (q ≡ l / t)
+times l t q e z =
+    by-cases (eqb (l % t) 0)
+    (λ u. (dvd-of-mod-eq-zero t (eqb-true (l % t) 0 u), rw u at e))
+    (λ u. absurd (z (rw u at e)))
+
+-- the rules for a task, and for a line past the last
+pub task-ok : (pl : Plan) (i : ℕ) → i < pl .count → lineOk pl i ≡ lineSound (pl .common) (getD (pl .lines) i noLine)
+task-ok pl i h = rw (lt-ltb i (pl .count) h)
+
+pub past-ok : (pl : Plan) (i : ℕ) → pl .count ≤ i → lineOk pl i ≡ lineEmpty (getD (pl .lines) i noLine)
+past-ok pl i h = rw (le-ltb i (pl .count) h)
+
+-- the periods of the tasks
+abbrev pub periodsOf : Plan → List ℕ
+periodsOf pl = map (λ (ln : Line). ln .period .0) (take (pl .count) (pl .lines))
+
+-- the period of task i
+abbrev pub periodAt : Plan → ℕ → ℕ
+periodAt pl i = getD (pl .lines) i noLine .period .0
+
+-- the tasks from i on are sound, their periods divide L, and g is the greatest common divisor of the quotients
+pub record Checked (pl : Plan) (g i : ℕ) : Type 0 where
+  pub below : i ≤ tasksLimit
+  pub lines : allBelow tasksLimit (lineOk pl) ≡ allBelow i (lineOk pl)
+  pub each : (j : ℕ) → i ≤ j → j < pl .count → periodAt pl j ∣ pl .common
+  pub divisor : g ≡ gcdAll (cofactors (pl .common) (drop i (periodsOf pl)))
+
+module _ (pl : Plan) (n : Numbers pl) where
+  periods-long : length (periodsOf pl) ≡ pl .count
+  periods-long = length-map (take (pl .count) (pl .lines)) (λ (ln : Line). ln .period .0) ∙ length-take-le (pl .count) (pl .lines) (omega (arith, n .count-few, n .long))
+
+  periods-at : (i : ℕ) → i < pl .count → getD (periodsOf pl) i 0 ≡ periodAt pl i
+  periods-at i h = List·getD-map (λ (ln : Line). ln .period .0) (take (pl .count) (pl .lines)) i noLine ∙ ap (λ (ln : Line). ln .period .0) (getD-take (pl .count) (pl .lines) i noLine h)
+
+  -- the period of task i, and those after it
+  periods-from : (i : ℕ) → i < pl .count → drop i (periodsOf pl) ≡ periodAt pl i ∷ drop (i + 1) (periodsOf pl)
+  periods-from i h = rw (add-one i, ← (periods-at i h)) (drop-cons (periodsOf pl) i 0 (omega (arith, periods-long)))
+
+  none-left : (i : ℕ) → pl .count ≤ i → drop i (periodsOf pl) ≡ []
+  none-left i h = drop-of-length-le (periodsOf pl) {i = i} (omega (arith, periods-long))
+
+  -- at first
+  pub start : Checked pl 0 tasksLimit
+  start = record {
+    below = omega arith;
+    lines = refl;
+    each = λ j h k. absurd (omega (arith, n .count-few));
+    divisor = rw (none-left tasksLimit (n .count-few));
+  }
+
+  -- each period divides the common period
+  divides : commonIs pl ≡ true → (i : ℕ) → i < pl .count → periodAt pl i ∣ pl .common
+  divides e i h =
+      rw (eqb-true (pl .common) (common (periodsOf pl)) e, ← (periods-at i h)) (common-each (periodsOf pl) i (omega (arith, periods-long)))
+
+  -- a period that does not divide L
+  pub period-breaks : (i : ℕ) → i < pl .count → timesIn (pl .common) (periodAt pl i) ≡ 0 → (allBelow tasksLimit (lineOk pl) && commonIs pl) ≡ false
+  period-breaks i h e =
+      by-cases (commonIs pl)
+      (λ t.
+      let d : periodAt pl i ∣ pl .common = divides t i h in
+      let q : pl .common / periodAt pl i ≡ 0 = rw (eq-eqb (pl .common % periodAt pl i) 0 (mod-eq-zero-of-dvd (periodAt pl i) d)) at e in
+      absurd (omega (arith, n .common-some, div-mul-cancel (periodAt pl i) d, ap (λ (x : ℕ). x * periodAt pl i) q)))
+      (λ f. rw f (and-false (allBelow tasksLimit (lineOk pl))))
+    where
+      and-false : (a : Bool) → (a && false) ≡ false
+      and-false true = refl
+      and-false false = refl
+
+  module _ (g i : ℕ) (k : Checked pl g (i + 1)) where
+    breaks : lineOk pl i ≡ false → (allBelow tasksLimit (lineOk pl) && commonIs pl) ≡ false
+    breaks e = rw (k .lines, below-suc (lineOk pl) i, e)
+
+    holds : lineOk pl i ≡ true → allBelow tasksLimit (lineOk pl) ≡ allBelow i (lineOk pl)
+    holds e = k .lines ∙ below-suc (lineOk pl) i ∙ rw e
+
+    module _ (h : i < pl .count) where
+      -- a task that breaks a rule
+      pub task-breaks : lineSound (pl .common) (getD (pl .lines) i noLine) ≡ false → (allBelow tasksLimit (lineOk pl) && commonIs pl) ≡ false
+      task-breaks e = breaks (task-ok pl i h ∙ e)
+
+      -- a sound task more
+      pub task-more : (q : ℕ) → lineSound (pl .common) (getD (pl .lines) i noLine) ≡ true → q ≡ timesIn (pl .common) (periodAt pl i) → (q ≡ 0 → ⊥) → Checked pl (gcd g q) i
+      task-more q e t z =
+          let d = times (pl .common) (periodAt pl i) q t z in
+          record {
+            below = omega (arith, n .count-few);
+            lines = holds (task-ok pl i h ∙ e);
+            each = λ j a b. by-cases (eqb j i) (λ u. rw (eqb-true j i u) (d .0)) (λ u. k .each j (omega (arith, eqb-false j i u)) b);
+            divisor = ap₂ gcd (k .divisor) (d .1) ∙ sym (ap (λ (ts : List ℕ). gcdAll (cofactors (pl .common) ts)) (periods-from i h));
+          }
+
+    module _ (h : pl .count ≤ i) where
+      -- a line that is not empty
+      pub past-breaks : lineEmpty (getD (pl .lines) i noLine) ≡ false → (allBelow tasksLimit (lineOk pl) && commonIs pl) ≡ false
+      past-breaks e = breaks (past-ok pl i h ∙ e)
+
+      -- an empty line more
+      pub past-more : i < tasksLimit → lineEmpty (getD (pl .lines) i noLine) ≡ true → Checked pl g i
+      past-more l e = record {
+        below = omega arith;
+        lines = holds (past-ok pl i h ∙ e);
+        each = λ j a b. k .each j (omega arith) b;
+        divisor = k .divisor ∙ rw (none-left i h, none-left (i + 1) (omega arith));
+      }
+
+  -- all lines are tested
+  pub finish : (g : ℕ) → Checked pl g 0 → eqb g 1 ≡ (allBelow tasksLimit (lineOk pl) && commonIs pl)
+  unfolding allBelow
+  finish g k =
+      let each : Each (λ t. t ∣ pl .common) (periodsOf pl) = λ i h. rw (periods-at i (omega (arith, periods-long))) (k .each i (omega arith) (omega (arith, periods-long))) in
+      same-bool (eqb g 1) (allBelow tasksLimit (lineOk pl) && commonIs pl)
+      (λ e. and-true (allBelow tasksLimit (lineOk pl)) (commonIs pl) (k .lines)
+      (eq-eqb (pl .common) (common (periodsOf pl)) (cofactor-common (pl .common) (periodsOf pl) each (sym (k .divisor) ∙ eqb-true g 1 e))))
+      (λ e. eq-eqb g 1 (k .divisor ∙ common-cofactor (pl .common) (periodsOf pl) (n .common-some) (omega (arith, periods-long, n .count-some))
+      (eqb-true (pl .common) (common (periodsOf pl)) (and-right (allBelow tasksLimit (lineOk pl)) (commonIs pl) e))))

@@ -1,0 +1,76 @@
+-- The rules of a plan together: its numbers, its tasks, its cores.
+use Prim.Native.Nat.{ℕ, _≤_, _<_}
+use mathlib.Core.Path.{_≡_, refl, sym, ap₂, _∙_}
+use mathlib.Core.Bool.{Bool, true, false, _&&_}
+use mathlib.Core.List.{List}
+use native.Mathlib.Omega.{arith}
+use lib.Dec.{ltb}
+use lib.ListN.{getD}
+use borrow.Author.Tests.{ltb-true, ltb-false}
+use Rattle.units.specs.Limits.{coresLimit, tasksLimit}
+use Rattle.lists.proofs.Tests.{by-cases}
+use Rattle.planning.specs.declared.Plan.{Plan}
+use Rattle.planning.specs.Plan.{noLine, tableOf}
+use Rattle.soundness.specs.declared.tally.Tally.{Tally}
+use Rattle.soundness.specs.Rules.{numbersIn, commonIs}
+use Rattle.soundness.specs.Plan.{allBelow, lineSound, lineOk, coreSound, planSound}
+use Rattle.soundness.specs.Tally.{noTally, tallyOf, tallySound, Weighed}
+use Rattle.soundness.proofs.Below.{below-at, below-same}
+use Rattle.soundness.proofs.Ranges.{sound-sum, sound-small, Zero, empty-zero}
+use Rattle.soundness.proofs.Tasks.{Numbers, task-ok, past-ok}
+
+module _ (pl : Plan) (n : Numbers pl) (e : allBelow tasksLimit (lineOk pl) ≡ true) where
+  -- a task of a plan whose lines are sound
+  pub task-sound : (i : ℕ) → i < pl .count → lineSound (pl .common) (getD (pl .lines) i noLine) ≡ true
+  task-sound i h = sym (task-ok pl i h) ∙ below-at (lineOk pl) tasksLimit e i (omega (arith, n .count-few))
+
+  -- a line past the last
+  pub past-zero : (i : ℕ) → pl .count ≤ i → i < tasksLimit → Zero (getD (pl .lines) i noLine)
+  past-zero i h l = empty-zero (getD (pl .lines) i noLine) (sym (past-ok pl i h) ∙ below-at (lineOk pl) tasksLimit e i l)
+
+  -- its shares sum to its weight, which is at most the largest L
+  pub lines-weighed : Weighed (pl .lines)
+  lines-weighed i l =
+      by-cases (ltb i (pl .count))
+      (λ t.
+      let s = task-sound i (ltb-true i (pl .count) t) in
+      (sound-sum (pl .common) (getD (pl .lines) i noLine) s, omega (arith, n .common-small, sound-small (pl .common) (getD (pl .lines) i noLine) s)))
+      (λ t. let z = past-zero i (ltb-false i (pl .count) t) l in (z .shares ∙ sym (z .weight), omega (arith, z .weight)))
+
+-- three groups of rules in a row: numbers n, lines a and common period b of the tasks, cores d
+grouped : (n a b d : Bool) → (n && a && b && d) ≡ (n && (a && b) && d)
+grouped true a b d = refl
+grouped false a b d = refl
+
+fails : (n x d : Bool) → x ≡ false → (n && x && d) ≡ false
+fails true x d e = rw e
+fails false x d e = refl
+
+-- the numbers break a rule
+pub numbers-break : (pl : Plan) → numbersIn pl ≡ false → planSound pl ≡ false
+unfolding planSound
+numbers-break pl e = rw e
+
+module _ (pl : Plan) where
+  abbrev tasks : Bool
+  tasks = allBelow tasksLimit (lineOk pl) && commonIs pl
+
+  abbrev cores : Bool
+  cores = allBelow coresLimit (coreSound pl)
+
+  groups : planSound pl ≡ (numbersIn pl && tasks && cores)
+  unfolding planSound
+  groups = grouped (numbersIn pl) (allBelow tasksLimit (lineOk pl)) (commonIs pl) cores
+
+  -- the tasks do
+  pub tasks-break : (allBelow tasksLimit (lineOk pl) && commonIs pl) ≡ false → planSound pl ≡ false
+  tasks-break e = groups ∙ fails (numbersIn pl) tasks cores e
+
+  -- neither does: the cores decide
+  pub cores-decide : (ts : List Tally) → numbersIn pl ≡ true → (allBelow tasksLimit (lineOk pl) && commonIs pl) ≡ true
+      → ((p : ℕ) → p < coresLimit → getD ts p noTally ≡ tallyOf p (tableOf pl))
+      → planSound pl ≡ allBelow coresLimit (λ p. tallySound (pl .cores) (pl .common) p (getD ts p noTally))
+  unfolding tallyOf
+  cores-decide ts n t at =
+      groups ∙ ap₂ (λ (a b : Bool). a && b && cores) n t
+      ∙ below-same (coreSound pl) (λ p. tallySound (pl .cores) (pl .common) p (getD ts p noTally)) coresLimit (λ p h. rw (at p h))

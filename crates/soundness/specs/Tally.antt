@@ -1,0 +1,77 @@
+-- What the tasks put on each core, counted and summed. Cores are counted from 0.
+use Prim.Native.Nat.{ℕ, _+_, _*_, _/_, _%_, _≤_, _<_, max}
+use mathlib.Core.Path.{_≡_}
+use mathlib.Core.Bool.{Bool, cond, _&&_, _||_, not}
+use mathlib.Core.List.{List}
+use lib.Dec.{ltb, leb, eqb}
+use lib.ListN.{getD}
+use Rattle.units.specs.Limits.{tasksLimit, commonLimit}
+use Rattle.units.specs.Units.{share}
+use Rattle.lists.specs.Lists.{sum}
+use Rattle.lists.specs.Rows.{count, column, top}
+use Rattle.assignment.specs.Movers.{has, fixedOn, movesOn, lower}
+use Rattle.planning.specs.declared.Line.{Line}
+use Rattle.planning.specs.Plan.{noLine, rowOf}
+use Rattle.soundness.specs.declared.tally.Tally.{Tally}
+
+-- what stands past the last core
+abbrev pub noTally : Tally
+noTally = record { load = share 0; movers = 0; firsts = 0; mover = share 0; fixed = share 0 }
+
+-- what the tasks of a table put on core p
+unfoldable pub tallyOf : ℕ → List (List ℕ) → Tally
+tallyOf p tab = record {
+  load = share (column p tab);
+  movers = count (movesOn p) tab;
+  firsts = count (lower p) tab;
+  mover = share (top (movesOn p) tab);
+  fixed = share (top (fixedOn p) tab);
+}
+
+-- with a fixed task of weight w more
+abbrev pub withFixed : ℕ → Tally → Tally
+withFixed w t = record {
+  load = share (w + t .load .0);
+  movers = t .movers;
+  firsts = t .firsts;
+  mover = t .mover;
+  fixed = share (max w (t .fixed .0));
+}
+
+-- with a share s of a mover of weight w more, whose first core it is or not
+abbrev pub withMover : ℕ → ℕ → Bool → Tally → Tally
+withMover w s first t = record {
+  load = share (s + t .load .0);
+  movers = 1 + t .movers;
+  firsts = cond first (1 + t .firsts) (t .firsts);
+  mover = share (max w (t .mover .0));
+  fixed = t .fixed;
+}
+
+-- core p with the shares of a mover of weight w and first core f more
+abbrev pub withShares : ℕ → ℕ → List ℕ → ℕ → Tally → Tally
+withShares w f row p t = cond (has p row) (withMover w (getD row p 0) (eqb f p) t) t
+
+-- at most sixty-four tasks are counted
+pub record Light (t : Tally) : Type 0 where
+  pub load : t .load .0 ≤ tasksLimit * commonLimit
+  pub movers : t .movers ≤ tasksLimit
+  pub firsts : t .firsts ≤ tasksLimit
+
+-- each task's shares sum to its weight, which is at most the largest L
+abbrev pub Weighed : List Line → Type 0
+Weighed lns =
+    (i : ℕ) → i < tasksLimit
+    → (sum (rowOf (getD lns i noLine)) ≡ getD lns i noLine .weight .0) × (getD lns i noLine .weight .0 ≤ commonLimit)
+
+-- the rules for core p of m cores of l units
+abbrev pub tallySound : ℕ → ℕ → ℕ → Tally → Bool
+tallySound m l p t =
+    (leb (t .load .0) l && (ltb p m || eqb (t .load .0) 0))
+    && leb (t .movers) 2
+    && (not (eqb (t .movers) 2) || eqb (t .firsts) 1)
+    && leb (t .mover .0) (t .fixed .0)
+
+-- how often t goes into l, 0 where it does not divide it
+abbrev pub timesIn : ℕ → ℕ → ℕ
+timesIn l t = cond (eqb (l % t) 0) (l / t) 0
