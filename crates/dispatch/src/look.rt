@@ -1,13 +1,16 @@
 // Look.
 use crate::Record;
+use planning::Line;
+use state::State;
 use units::limits::TASKS;
 use units::ticks::Ticks;
 ghost use mathlib.Core.Path.{_≡_};
 ghost use mathlib.Core.Bool.{true};
-ghost use Prim.Native.Nat.{_<_, _≤_};
-ghost use Rattle.units.specs.Limits.{coresLimit, tasksLimit};
+ghost use Prim.Native.Nat.{_+_, _<_, _≤_};
+ghost use Rattle.units.specs.Limits.{coresLimit, tasksLimit, periodLimit, clockLimit};
+ghost use Rattle.state.specs.Key.{deadlineOf, waits};
 ghost use Rattle.dispatch.specs.Sound.{soundOf};
-ghost use Rattle.dispatch.specs.Look.{bestOf, choiceOf, lookOf};
+ghost use Rattle.dispatch.specs.Look.{better as betterOf, bestOf, choiceOf, lookOf};
 
 // Where a mover stands on a core: lower on its first core, upper on any other.
 pub enum Side {
@@ -35,8 +38,26 @@ pub struct Looked {
     pub next: Record,
 }
 
+// The better of the best task so far and another, from 1.
+fn better(best: Best, task: usize, line: Line, state: State, core: usize) -> Best
+    requires { ⌜ (0 < core) × (core ≤ coresLimit) × (waits state core ≡ true → deadlineOf state ≤ clockLimit + periodLimit) ⌝ }
+    ensures { λ r. ⌜ r ≡ betterOf best task line state core ⌝ }
+{
+    if !state.waits(core) {
+        return best;
+    }
+    let key = state.key(line, core);
+    if (best.task == 0) | (key < best.key) {
+        return Best {
+            task: task,
+            key: key,
+        };
+    }
+    best
+}
+
 impl Record {
-    // The best of the first tasks for a core: the least key, the lowest task number at a tie.
+    // The best task for a core: the least key, the lowest task number at a tie.
     fn best(self, core: usize) -> Best
         requires { ⌜ (soundOf self ≡ true) × (0 < core) × (core ≤ coresLimit) ⌝ }
         ensures { λ r. ⌜ r ≡ bestOf self core tasksLimit ⌝ }
@@ -45,18 +66,10 @@ impl Record {
         let mut best = Best { task: 0, key: 0 };
         let mut i: usize = 0;
         while i < TASKS {
+            let line = lines[i];
             let state = self.states[i];
-            if state.waits(core) {
-                let line = lines[i];
-                let key = state.key(line, core);
-                if (best.task == 0) | (key < best.key) {
-                    best = Best {
-                        task: i + 1,
-                        key: key,
-                    };
-                }
-            }
             i += 1;
+            best = better(best, i, line, state, core);
         }
         best
     }

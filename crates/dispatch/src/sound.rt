@@ -1,14 +1,29 @@
 // Refusal 15: whether a record is sound, for any numbers whatever.
 use crate::Record;
+use planning::Line;
 use soundness::plan::plan_sound;
+use state::State;
 use units::limits::CLOCK;
 use units::limits::TASKS;
 ghost use mathlib.Core.Path.{_≡_};
-ghost use mathlib.Core.Bool.{true};
-ghost use Rattle.units.specs.Limits.{tasksLimit};
+ghost use mathlib.Core.Bool.{true, cond};
+ghost use Prim.Native.Nat.{_≤_};
+ghost use Rattle.units.specs.Limits.{tasksLimit, periodLimit};
 ghost use Rattle.lists.specs.Below.{allBelow};
 ghost use Rattle.soundness.specs.Plan.{planSound};
+ghost use Rattle.state.specs.Sound.{stateSound, stateEmpty};
 ghost use Rattle.dispatch.specs.Sound.{stateOk, soundOf};
+
+// A task in use is sound, another is empty.
+fn state_ok(used: bool, line: Line, state: State) -> bool
+    requires { ⌜ (used ≡ true → line .period .0 ≤ periodLimit) ⌝ }
+    ensures { λ r. ⌜ r ≡ cond used (stateSound line state) (stateEmpty state) ⌝ }
+{
+    if used {
+        return state.sound(line);
+    }
+    state.empty()
+}
 
 impl Record {
     // Each task in use is sound, the others are empty.
@@ -16,19 +31,14 @@ impl Record {
         requires { ⌜ planSound (self .plan) ≡ true ⌝ }
         ensures { λ r. ⌜ r ≡ allBelow tasksLimit (stateOk self) ⌝ }
     {
+        let count = self.plan.count;
         let lines = self.plan.lines;
         let mut i: usize = 0;
         while i < TASKS {
             let line = lines[i];
             let state = self.states[i];
-            if i < self.plan.count {
-                if !state.sound(line) {
-                    return false;
-                }
-            } else {
-                if !state.empty() {
-                    return false;
-                }
+            if !state_ok(i < count, line, state) {
+                return false;
             }
             i += 1;
         }

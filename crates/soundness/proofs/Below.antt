@@ -7,7 +7,7 @@ use native.Mathlib.Numerals.{add-one}
 use lib.Dec.{eqb}
 use borrow.Author.Tests.{eqb-true, eqb-false}
 use Rattle.lists.proofs.Tests.{by-cases, and-left, and-right, and-true}
-use Rattle.soundness.specs.Plan.{allBelow}
+use Rattle.lists.specs.Below.{allBelow}
 
 module _ (f : ℕ → Bool) where
   -- one number more

@@ -7,3 +7,4 @@ pub mod Added
 pub mod Counted
 pub mod Wide
 pub mod Whole
+pub mod Facts

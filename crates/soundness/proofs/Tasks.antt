@@ -20,7 +20,8 @@ use Rattle.planning.specs.declared.Line.{Line}
 use Rattle.planning.specs.declared.Plan.{Plan}
 use Rattle.planning.specs.Plan.{noLine}
 use Rattle.soundness.specs.Rules.{numbersIn, commonIs, lineEmpty}
-use Rattle.soundness.specs.Plan.{allBelow, lineSound, lineOk}
+use Rattle.lists.specs.Below.{allBelow}
+use Rattle.soundness.specs.Plan.{lineSound, lineOk}
 use Rattle.soundness.specs.Tally.{timesIn}
 use Rattle.soundness.proofs.Below.{below-suc}
 

@@ -13,7 +13,8 @@ use Rattle.planning.specs.declared.Plan.{Plan}
 use Rattle.planning.specs.Plan.{noLine, tableOf}
 use Rattle.soundness.specs.declared.tally.Tally.{Tally}
 use Rattle.soundness.specs.Rules.{numbersIn, commonIs}
-use Rattle.soundness.specs.Plan.{allBelow, lineSound, lineOk, coreSound, planSound}
+use Rattle.lists.specs.Below.{allBelow}
+use Rattle.soundness.specs.Plan.{lineSound, lineOk, coreSound, planSound}
 use Rattle.soundness.specs.Tally.{noTally, tallyOf, tallySound, Weighed}
 use Rattle.soundness.proofs.Below.{below-at, below-same}
 use Rattle.soundness.proofs.Ranges.{sound-sum, sound-small, Zero, empty-zero}

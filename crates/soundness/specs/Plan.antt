@@ -1,18 +1,14 @@
 -- A plan is sound if every rule holds for every task and every core.
-use Prim.Native.Nat.{ℕ, zero, suc}
-use mathlib.Core.Bool.{Bool, true, cond, _&&_}
+use Prim.Native.Nat.{ℕ}
+use mathlib.Core.Bool.{Bool, cond, _&&_}
 use lib.Dec.{ltb}
 use lib.ListN.{getD}
+use Rattle.lists.specs.Below.{allBelow}
 use Rattle.units.specs.Limits.{coresLimit, tasksLimit}
 use Rattle.planning.specs.declared.Line.{Line}
 use Rattle.planning.specs.declared.Plan.{Plan}
 use Rattle.planning.specs.Plan.{noLine, tableOf}
 use Rattle.soundness.specs.Rules.{numbersIn, lineIn, weightIs, sharesSum, lineEmpty, commonIs, coreWithin, fewMovers, oneFirst, guarded}
-
--- a test holds of every number below n
-unfoldable pub allBelow : ℕ → (ℕ → Bool) → Bool
-allBelow zero f = true
-allBelow (suc n) f = f n && allBelow n f
 
 -- the rules for a task in use
 abbrev pub lineSound : ℕ → Line → Bool

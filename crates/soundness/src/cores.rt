@@ -6,7 +6,7 @@ ghost use mathlib.Core.Bool.{_&&_, _||_, not};
 ghost use lib.Dec.{ltb, leb, eqb};
 ghost use lib.ListN.{getD};
 ghost use Rattle.units.specs.Limits.{coresLimit};
-ghost use Rattle.soundness.specs.Plan.{allBelow};
+ghost use Rattle.lists.specs.Below.{allBelow};
 ghost use Rattle.soundness.specs.Tally.{tallySound, noTally};
 
 // Its load is at most L, and it has none if it is not among the M cores.

@@ -14,7 +14,8 @@ ghost use mathlib.Core.Bool.{true, _&&_};
 ghost use Rattle.units.specs.Limits.{tasksLimit};
 ghost use Rattle.arith.specs.Divisor.{gcd as gcdOf};
 ghost use Rattle.soundness.specs.Rules.{numbersIn, lineIn, commonIs};
-ghost use Rattle.soundness.specs.Plan.{allBelow, lineOk, planSound};
+ghost use Rattle.lists.specs.Below.{allBelow};
+ghost use Rattle.soundness.specs.Plan.{lineOk, planSound};
 ghost use Rattle.soundness.specs.Tally.{timesIn};
 
 // Cores, tasks and the common period are in their ranges.

@@ -5,7 +5,7 @@ use mathlib.Core.Bool.{Bool, _&&_}
 use native.Mathlib.Omega.{arith}
 use lib.ListN.{getD}
 use Rattle.units.specs.Limits.{coresLimit}
-use Rattle.soundness.specs.Plan.{allBelow}
+use Rattle.lists.specs.Below.{allBelow}
 use Rattle.soundness.specs.Tally.{tallySound, noTally}
 use Rattle.soundness.proofs.Below.{below-suc}
 use Rattle.soundness.proofs.cores.cores_sound.Statement.{statement}

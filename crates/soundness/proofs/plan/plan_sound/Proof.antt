@@ -7,7 +7,8 @@ use borrow.Author.Tests.{not-true, not-false}
 use Rattle.lists.proofs.Tests.{and-left}
 use Rattle.units.specs.Limits.{tasksLimit}
 use Rattle.soundness.specs.Rules.{numbersIn, commonIs}
-use Rattle.soundness.specs.Plan.{allBelow, lineOk}
+use Rattle.lists.specs.Below.{allBelow}
+use Rattle.soundness.specs.Plan.{lineOk}
 use Rattle.soundness.proofs.Tasks.{numbers}
 use Rattle.soundness.proofs.Whole.{lines-weighed, numbers-break, tasks-break, cores-decide}
 use Rattle.soundness.proofs.plan.plan_sound.Statement.{statement}

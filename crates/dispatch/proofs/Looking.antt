@@ -1,0 +1,76 @@
+-- The best task for a core, and the choice that it is.
+use Prim.Native.Nat.{ℕ, zero, suc, _+_, _-_, _≤_, _<_}
+use mathlib.Core.Path.{_≡_, refl, sym, ap, _∙_}
+use mathlib.Core.Bool.{Bool, true, false, cond, _&&_, _||_}
+use native.Mathlib.Numerals.{add-one}
+use native.Mathlib.Omega.{arith}
+use lib.Dec.{ltb, eqb}
+use borrow.Author.Tests.{eq-eqb, ne-eqb}
+use Rattle.units.specs.Limits.{tasksLimit}
+use Rattle.units.specs.Units.{ticks}
+use Rattle.lists.proofs.Tests.{by-cases}
+use Rattle.planning.specs.declared.Line.{Line}
+use Rattle.state.specs.declared.State.{State}
+use Rattle.state.specs.Key.{deadlineOf, waits, keyOf}
+use Rattle.dispatch.specs.declared.Record.{Record}
+use Rattle.dispatch.specs.declared.look.Best.{Best}
+use Rattle.dispatch.specs.declared.look.Side.the-variants.{Upper, Lower}
+use Rattle.dispatch.specs.declared.look.Choice.the-variants.{Idle, Fixed, Mover}
+use Rattle.dispatch.specs.Record.{lineAt, stateAt}
+use Rattle.dispatch.specs.Look.{better, bestOf, choiceFor, choiceOf}
+
+module _ (b : Best) (i : ℕ) (ln : Line) (st : State) (k : ℕ) where
+  -- a task that does not wait on the core changes nothing
+  pub better-not : waits st k ≡ false → b ≡ better b i ln st k
+  better-not e = rw e
+
+  -- one that waits is the best so far, or it is not
+  pub better-here : waits st k ≡ true → (n : ℕ) → n ≡ keyOf ln st k → (eqb (b .task) 0 || ltb n (b .key)) ≡ true → record { task = i; key = n } ≡ better b i ln st k
+  better-here e n q t =
+      rw (e, sym (ap (λ (x : ℕ). eqb (b .task) 0 || ltb x (b .key)) q) ∙ t) (ap (λ (x : ℕ). record { task = i; key = x }) q)
+
+  pub better-kept : waits st k ≡ true → (n : ℕ) → n ≡ keyOf ln st k → (eqb (b .task) 0 || ltb n (b .key)) ≡ false → b ≡ better b i ln st k
+  better-kept e n q t = rw (e, sym (ap (λ (x : ℕ). eqb (b .task) 0 || ltb x (b .key)) q) ∙ t)
+
+-- one task more
+pub best-more : (r : Record) (k n : ℕ) (b x : Best) → b ≡ bestOf r k n → x ≡ better b (n + 1) (lineAt r n) (stateAt r n) k → x ≡ bestOf r k (n + 1)
+unfolding bestOf
+best-more r k n b x e q = rw (add-one n) (rw (add-one n) at (q ∙ ap (λ (y : Best). better y (n + 1) (lineAt r n) (stateAt r n) k) e))
+
+better-below : (b : Best) (i : ℕ) (ln : Line) (st : State) (k : ℕ) → b .task ≤ i → better b i ln st k .task ≤ i
+better-below b i ln st k h =
+    by-cases (waits st k && (eqb (b .task) 0 || ltb (keyOf ln st k) (b .key)))
+    (λ e. rw e (omega arith))
+    (λ e. rw e h)
+
+-- the best is one of them
+pub best-below : (r : Record) (k n : ℕ) → bestOf r k n .task ≤ n
+unfolding bestOf
+best-below r k zero = omega arith
+best-below r k (suc n) = better-below (bestOf r k n) (suc n) (lineAt r n) (stateAt r n) k (omega (arith, best-below r k n))
+
+module _ (r : Record) (k : ℕ) (b : Best) (e : b ≡ bestOf r k tasksLimit) where
+  pub best-task : b .task ≤ tasksLimit
+  best-task = omega (arith, ap (λ (x : Best). x .task) e, best-below r k tasksLimit)
+
+  -- nobody waits
+  pub choice-idle : b .task ≡ 0 → Idle ≡ choiceOf r k
+  unfolding choiceOf choiceFor
+  choice-idle z = rw (← e, eq-eqb (b .task) 0 z)
+
+  module _ (some : b .task ≡ 0 → ⊥) where
+    -- an upper mover
+    pub choice-upper : b .key ≡ 0 → Mover (b .task) (ticks (deadlineOf (stateAt r (b .task - 1)))) Upper ≡ choiceOf r k
+    unfolding choiceOf choiceFor
+    choice-upper z = rw (← e, ne-eqb (b .task) 0 some, eq-eqb (b .key) 0 z)
+
+    module _ (not-upper : b .key ≡ 0 → ⊥) where
+      -- a lower mover
+      pub choice-lower : b .key ≡ 1 → Mover (b .task) (ticks (deadlineOf (stateAt r (b .task - 1)))) Lower ≡ choiceOf r k
+      unfolding choiceOf choiceFor
+      choice-lower z = rw (← e, ne-eqb (b .task) 0 some, ne-eqb (b .key) 0 not-upper, eq-eqb (b .key) 1 z)
+
+      -- a fixed task
+      pub choice-fixed : (b .key ≡ 1 → ⊥) → Fixed (b .task) (ticks (deadlineOf (stateAt r (b .task - 1)))) ≡ choiceOf r k
+      unfolding choiceOf choiceFor
+      choice-fixed z = rw (← e, ne-eqb (b .task) 0 some, ne-eqb (b .key) 0 not-upper, ne-eqb (b .key) 1 z)

@@ -1,0 +1,87 @@
+-- The first refusal that applies, and the answer by it.
+use Prim.Native.Nat.{ℕ, _-_}
+use mathlib.Core.Path.{_≡_, refl, sym, ap, _∙_}
+use mathlib.Core.Bool.{Bool, true, false, cond, not}
+use lib.Dec.{eqb}
+use borrow.Author.Tests.{eq-eqb, ne-eqb}
+use Rattle.state.specs.Own.{releaseOwn, finishOwn}
+use Rattle.dispatch.specs.declared.Record.{Record}
+use Rattle.dispatch.specs.declared.release.Released.{Released}
+use Rattle.dispatch.specs.declared.finish.Finished.{Finished}
+use Rattle.dispatch.specs.declared.look.Looked.{Looked}
+use Rattle.dispatch.specs.declared.look.Choice.the-variants.{Idle}
+use Rattle.dispatch.specs.Record.{lineAt, stateAt}
+use Rattle.dispatch.specs.Sound.{soundOf}
+use Rattle.dispatch.specs.Refusals.{outside, timeNo, taskNo, lookNo, releaseNo, finishNo}
+use Rattle.dispatch.specs.Release.{takeRelease, refuseRelease, releaseOf}
+use Rattle.dispatch.specs.Finish.{takeFinish, refuseFinish, finishOf}
+use Rattle.dispatch.specs.Look.{choiceOf, atTime, lookOf}
+
+-- 15, then a number out of range, then the time's
+module _ (r : Record) (i t : ℕ) where
+  pub task-unsound : soundOf r ≡ false → 15 ≡ taskNo r i t
+  unfolding taskNo
+  task-unsound e = rw e
+
+  pub task-outside : soundOf r ≡ true → outside (r .plan .count) i ≡ true → 7 ≡ taskNo r i t
+  unfolding taskNo
+  task-outside e o = rw (e, o)
+
+  pub task-time : soundOf r ≡ true → outside (r .plan .count) i ≡ false → (n : ℕ) → n ≡ timeNo r t → n ≡ taskNo r i t
+  unfolding taskNo
+  task-time e o n q = rw (e, o) q
+
+  pub look-unsound : soundOf r ≡ false → 15 ≡ lookNo r i t
+  unfolding lookNo
+  look-unsound e = rw e
+
+  pub look-outside : soundOf r ≡ true → outside (r .plan .cores) i ≡ true → 13 ≡ lookNo r i t
+  unfolding lookNo
+  look-outside e o = rw (e, o)
+
+  pub look-time : soundOf r ≡ true → outside (r .plan .cores) i ≡ false → (n : ℕ) → n ≡ timeNo r t → n ≡ lookNo r i t
+  unfolding lookNo
+  look-time e o n q = rw (e, o) q
+
+  -- the task's first, then a release's or a finish's own
+  module _ (n : ℕ) (q : n ≡ taskNo r i t) where
+    pub release-first : (n ≡ 0 → ⊥) → n ≡ releaseNo r i t
+    unfolding releaseNo
+    release-first z = q ∙ (rw (ne-eqb (taskNo r i t) 0 (λ e. z (q ∙ e))))
+
+    pub release-own : n ≡ 0 → (m : ℕ) → m ≡ releaseOwn (lineAt r (i - 1)) (stateAt r (i - 1)) t → m ≡ releaseNo r i t
+    unfolding releaseNo
+    release-own z m e = rw (eq-eqb (taskNo r i t) 0 (sym q ∙ z)) e
+
+    pub finish-first : (n ≡ 0 → ⊥) → n ≡ finishNo r i t
+    unfolding finishNo
+    finish-first z = q ∙ (rw (ne-eqb (taskNo r i t) 0 (λ e. z (q ∙ e))))
+
+    pub finish-own : n ≡ 0 → (m : ℕ) → m ≡ finishOwn (stateAt r (i - 1)) → m ≡ finishNo r i t
+    unfolding finishNo
+    finish-own z m e = rw (eq-eqb (taskNo r i t) 0 (sym q ∙ z)) e
+
+  -- refused with that number, or taken
+  pub release-refused : (n : ℕ) → n ≡ releaseNo r i t → (n ≡ 0 → ⊥) → refuseRelease n r ≡ releaseOf r i t
+  unfolding releaseOf
+  release-refused n q z = rw (ne-eqb (releaseNo r i t) 0 (λ e. z (q ∙ e))) (ap (λ (m : ℕ). refuseRelease m r) q)
+
+  pub release-taken : releaseNo r i t ≡ 0 → takeRelease r i t ≡ releaseOf r i t
+  unfolding releaseOf
+  release-taken e = rw (eq-eqb (releaseNo r i t) 0 e)
+
+  pub finish-refused : (n : ℕ) → n ≡ finishNo r i t → (n ≡ 0 → ⊥) → refuseFinish n r ≡ finishOf r i t
+  unfolding finishOf
+  finish-refused n q z = rw (ne-eqb (finishNo r i t) 0 (λ e. z (q ∙ e))) (ap (λ (m : ℕ). refuseFinish m r) q)
+
+  pub finish-taken : finishNo r i t ≡ 0 → takeFinish r i t ≡ finishOf r i t
+  unfolding finishOf
+  finish-taken e = rw (eq-eqb (finishNo r i t) 0 e)
+
+  pub look-refused : (n : ℕ) → n ≡ lookNo r i t → (n ≡ 0 → ⊥) → record { refusal = n; choice = Idle; next = r } ≡ lookOf r i t
+  unfolding lookOf
+  look-refused n q z = rw (ne-eqb (lookNo r i t) 0 (λ e. z (q ∙ e))) (ap (λ (m : ℕ). record { refusal = m; choice = Idle; next = r }) q)
+
+  pub look-taken : lookNo r i t ≡ 0 → record { refusal = 0; choice = choiceOf r i; next = atTime r t } ≡ lookOf r i t
+  unfolding lookOf
+  look-taken e = rw (eq-eqb (lookNo r i t) 0 e)
