@@ -41,29 +41,46 @@ ruled pl e =
       cores = λ p h. all-at coresLimit p (coreSound pl) h (and-right (a && b && c) d e);
     }
 
+-- cores, tasks and the common period in their ranges
+pub record Numbers (pl : Plan) : Type 0 where
+  pub cores-some : 0 < pl .cores
+  pub cores-few : pl .cores ≤ coresLimit
+  pub count-some : 0 < pl .count
+  pub count-few : pl .count ≤ tasksLimit
+  pub common-some : 0 < pl .common
+  pub common-small : pl .common ≤ commonLimit
+
+-- the rule says them
+pub numbers : (pl : Plan) → numbersIn pl ≡ true → Numbers pl
+numbers pl e =
+    let a = leb 1 (pl .cores) in
+    let b = leb (pl .cores) coresLimit in
+    let c = leb 1 (pl .count) in
+    let d = leb (pl .count) tasksLimit in
+    let f = leb 1 (pl .common) in
+    let g = leb (pl .common) commonLimit in
+    let e₅ = and-left (a && b && c && d && f) g e in
+    let e₄ = and-left (a && b && c && d) f e₅ in
+    let e₃ = and-left (a && b && c) d e₄ in
+    let e₂ = and-left (a && b) c e₃ in
+    record {
+      cores-some = leb-true 1 (pl .cores) (and-left a b e₂);
+      cores-few = leb-true (pl .cores) coresLimit (and-right a b e₂);
+      count-some = leb-true 1 (pl .count) (and-right (a && b) c e₃);
+      count-few = leb-true (pl .count) tasksLimit (and-right (a && b && c) d e₄);
+      common-some = leb-true 1 (pl .common) (and-right (a && b && c && d) f e₅);
+      common-small = leb-true (pl .common) commonLimit (and-right (a && b && c && d && f) g e);
+    }
+
 module _ (pl : Plan) (ok : planSound pl ≡ true) where
-  -- cores, tasks and the common period are few and small
-  few : (pl .cores ≤ coresLimit) × (pl .count ≤ tasksLimit) × (pl .common ≤ commonLimit)
-  few =
-      let a = leb 1 (pl .cores) in
-      let b = leb (pl .cores) coresLimit in
-      let c = leb 1 (pl .count) in
-      let d = leb (pl .count) tasksLimit in
-      let f = leb 1 (pl .common) in
-      let g = leb (pl .common) commonLimit in
-      let e = ruled pl ok .numbers in
-      let e₅ = and-left (a && b && c && d && f) g e in
-      let e₄ = and-left (a && b && c && d) f e₅ in (
-        leb-true (pl .cores) coresLimit (and-right a b (and-left (a && b) c (and-left (a && b && c) d e₄))),
-        leb-true (pl .count) tasksLimit (and-right (a && b && c) d e₄),
-        leb-true (pl .common) commonLimit (and-right (a && b && c && d && f) g e),
-      )
+  few : Numbers pl
+  few = numbers pl (ruled pl ok .numbers)
 
   pub cores-few : pl .cores ≤ coresLimit
-  cores-few = few .0
+  cores-few = few .cores-few
 
   pub tasks-few : pl .count ≤ tasksLimit
-  tasks-few = few .1
+  tasks-few = few .count-few
 
   -- a task in use is sound
   pub task-sound : (i : ℕ) → i < pl .count → lineSound (pl .common) (getD (pl .lines) i noLine) ≡ true
@@ -73,7 +90,7 @@ module _ (pl : Plan) (ok : planSound pl ≡ true) where
   period-small i h = let ln = getD (pl .lines) i noLine in in-range ln (sound-in (pl .common) ln (task-sound i h)) .period-small
 
   pub weight-small : (i : ℕ) → i < pl .count → getD (pl .lines) i noLine .weight .0 ≤ commonLimit
-  weight-small i h = omega (arith, sound-small (pl .common) (getD (pl .lines) i noLine) (task-sound i h), few .2)
+  weight-small i h = omega (arith, sound-small (pl .common) (getD (pl .lines) i noLine) (task-sound i h), few .common-small)
 
   pub shares-sum : (i : ℕ) → i < pl .count → sum (rowOf (getD (pl .lines) i noLine)) ≡ getD (pl .lines) i noLine .weight .0
   shares-sum i h = sound-sum (pl .common) (getD (pl .lines) i noLine) (task-sound i h)

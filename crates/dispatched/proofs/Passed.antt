@@ -1,0 +1,70 @@
+-- A call that is not refused has passed every test.
+use Prim.Native.Nat.{ℕ, _-_, _≤_, _<_}
+use mathlib.Core.Path.{_≡_, refl}
+use mathlib.Core.Bool.{Bool, true, false, cond, not}
+use native.Mathlib.Omega.{arith}
+use lib.Dec.{ltb, eqb}
+use borrow.Author.Tests.{ltb-false, eqb-true, eqb-false, not-false}
+use Rattle.units.specs.Limits.{clockLimit}
+use Rattle.lists.proofs.Tests.{by-cases, or-false-left, or-false-right}
+use Rattle.state.specs.Own.{releaseOwn, finishOwn}
+use Rattle.dispatch.specs.declared.Record.{Record}
+use Rattle.dispatch.specs.Record.{lineAt, stateAt}
+use Rattle.dispatch.specs.Sound.{soundOf}
+use Rattle.dispatch.specs.Refusals.{outside, timeNo, taskNo, lookNo, releaseNo, finishNo}
+
+-- no refusal: this test does not apply, and none after it
+gate : (b : Bool) (m n : ℕ) → 0 < m → cond b m n ≡ 0 → (b ≡ false) × (n ≡ 0)
+gate true m n h e = absurd (omega arith)
+gate false m n h e = (refl, e)
+
+-- a number from 1 to n, and a time from the clock to its limit
+pub record Passed (r : Record) (n i t : ℕ) : Type 0 where
+  pub sound : soundOf r ≡ true
+  pub from : 0 < i
+  pub to : i ≤ n
+  pub limit : t ≤ clockLimit
+  pub clock : r .clock .0 ≤ t
+
+-- 15, then 7 or 13, then 12, then 8
+passed : (r : Record) (n m i t : ℕ) → 0 < m → cond (not (soundOf r)) 15 (cond (outside n i) m (timeNo r t)) ≡ 0 → Passed r n i t
+passed r n m i t h e =
+    let a = gate (not (soundOf r)) 15 (cond (outside n i) m (timeNo r t)) (omega arith) e in
+    let b = gate (outside n i) m (timeNo r t) h (a .1) in
+    let c = gate (ltb clockLimit t) 12 (cond (ltb t (r .clock .0)) 8 0) (omega arith) (b .1) in
+    let d = gate (ltb t (r .clock .0)) 8 0 (omega arith) (c .1) in
+    record {
+      sound = not-false (soundOf r) (a .0);
+      from = omega (arith, eqb-false i 0 (or-false-left (eqb i 0) (ltb n i) (b .0)));
+      to = ltb-false n i (or-false-right (eqb i 0) (ltb n i) (b .0));
+      limit = ltb-false clockLimit t (c .0);
+      clock = ltb-false t (r .clock .0) (d .0);
+    }
+
+module _ (r : Record) (i t : ℕ) where
+  -- a call for a task
+  pub task-passed : taskNo r i t ≡ 0 → Passed r (r .plan .count) i t
+  unfolding taskNo
+  task-passed e = passed r (r .plan .count) 7 i t (omega arith) e
+
+  -- a look
+  pub look-passed : lookNo r i t ≡ 0 → Passed r (r .plan .cores) i t
+  unfolding lookNo
+  look-passed e = passed r (r .plan .cores) 13 i t (omega arith) e
+
+  -- the tests of every call for a task, then its own
+  both : (own : ℕ) → cond (eqb (taskNo r i t) 0) own (taskNo r i t) ≡ 0 → (taskNo r i t ≡ 0) × (own ≡ 0)
+  both own e =
+      by-cases (eqb (taskNo r i t) 0)
+      (λ z. (eqb-true (taskNo r i t) 0 z, rw z at e))
+      (λ z. absurd (eqb-false (taskNo r i t) 0 z (rw z at e)))
+
+  -- a release
+  pub release-passed : releaseNo r i t ≡ 0 → Passed r (r .plan .count) i t × (releaseOwn (lineAt r (i - 1)) (stateAt r (i - 1)) t ≡ 0)
+  unfolding releaseNo
+  release-passed e = let p = both (releaseOwn (lineAt r (i - 1)) (stateAt r (i - 1)) t) e in (task-passed (p .0), p .1)
+
+  -- a finish
+  pub finish-passed : finishNo r i t ≡ 0 → Passed r (r .plan .count) i t × (finishOwn (stateAt r (i - 1)) ≡ 0)
+  unfolding finishNo
+  finish-passed e = let p = both (finishOwn (stateAt r (i - 1))) e in (task-passed (p .0), p .1)
