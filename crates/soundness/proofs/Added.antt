@@ -8,7 +8,6 @@ use lib.Dec.{eqb, eqb·suc-zero}
 use lib.ListN.{length, getD, take, drop, set}
 use lib.Seq.{getD-set-other, take-all}
 use borrow.Author.Tests.{ltb-false, lt-ltb, le-ltb, eqb-true, eqb-false, eq-eqb, ne-eqb}
-use Rattle.units.specs.Units.{share}
 use Rattle.lists.specs.Lists.{sum, parts, firstPart, bit, val}
 use Rattle.lists.proofs.Tests.{by-cases}
 use Rattle.lists.proofs.Lists.{getD-le-sum, sum-set, sum-take-suc, sum-ends, parts-le, parts-some}
@@ -19,7 +18,7 @@ use Rattle.soundness.specs.Tally.{tallyOf, withFixed, withShares}
 
 -- five numbers of a core
 abbrev tally : ℕ → ℕ → ℕ → ℕ → ℕ → Tally
-tally a b c d e = record { load = share a; movers = b; firsts = c; mover = share d; fixed = share e }
+tally a b c d e = record { load = a; movers = b; firsts = c; mover = d; fixed = e }
 
 same : (a b c d e a′ b′ c′ d′ e′ : ℕ) → a ≡ a′ → b ≡ b′ → c ≡ c′ → d ≡ d′ → e ≡ e′ → tally a b c d e ≡ tally a′ b′ c′ d′ e′
 same a b c d e a′ b′ c′ d′ e′ p q r s t = rw (p, q, r, s, t)
@@ -28,11 +27,11 @@ same a b c d e a′ b′ c′ d′ e′ p q r s t = rw (p, q, r, s, t)
 abbrev pub withRow : ℕ → List ℕ → Tally → Tally
 withRow p row t =
     tally
-    (getD row p 0 + t .load .0)
+    (getD row p 0 + t .load)
     (bit (movesOn p row) + t .movers)
     (bit (lower p row) + t .firsts)
-    (max (val (movesOn p row) (sum row)) (t .mover .0))
-    (max (val (fixedOn p row) (sum row)) (t .fixed .0))
+    (max (val (movesOn p row) (sum row)) (t .mover))
+    (max (val (fixedOn p row) (sum row)) (t .fixed))
 
 pub tally-more : (p : ℕ) (row : List ℕ) (tab : List (List ℕ)) → tallyOf p (row ∷ tab) ≡ withRow p row (tallyOf p tab)
 unfolding tallyOf

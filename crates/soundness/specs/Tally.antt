@@ -6,7 +6,6 @@ use mathlib.Core.List.{List}
 use lib.Dec.{ltb, leb, eqb}
 use lib.ListN.{getD}
 use Rattle.units.specs.Limits.{tasksLimit, commonLimit}
-use Rattle.units.specs.Units.{share}
 use Rattle.lists.specs.Lists.{sum}
 use Rattle.lists.specs.Rows.{count, column, top}
 use Rattle.assignment.specs.Movers.{has, fixedOn, movesOn, lower}
@@ -16,35 +15,35 @@ use Rattle.soundness.specs.declared.tally.Tally.{Tally}
 
 -- what stands past the last core
 abbrev pub noTally : Tally
-noTally = record { load = share 0; movers = 0; firsts = 0; mover = share 0; fixed = share 0 }
+noTally = record { load = 0; movers = 0; firsts = 0; mover = 0; fixed = 0 }
 
 -- what the tasks of a table put on core p
 unfoldable pub tallyOf : ℕ → List (List ℕ) → Tally
 tallyOf p tab = record {
-  load = share (column p tab);
+  load = column p tab;
   movers = count (movesOn p) tab;
   firsts = count (lower p) tab;
-  mover = share (top (movesOn p) tab);
-  fixed = share (top (fixedOn p) tab);
+  mover = top (movesOn p) tab;
+  fixed = top (fixedOn p) tab;
 }
 
 -- with a fixed task of weight w more
 abbrev pub withFixed : ℕ → Tally → Tally
 withFixed w t = record {
-  load = share (w + t .load .0);
+  load = w + t .load;
   movers = t .movers;
   firsts = t .firsts;
   mover = t .mover;
-  fixed = share (max w (t .fixed .0));
+  fixed = max w (t .fixed);
 }
 
 -- with a share s of a mover of weight w more, whose first core it is or not
 abbrev pub withMover : ℕ → ℕ → Bool → Tally → Tally
 withMover w s first t = record {
-  load = share (s + t .load .0);
+  load = s + t .load;
   movers = 1 + t .movers;
   firsts = cond first (1 + t .firsts) (t .firsts);
-  mover = share (max w (t .mover .0));
+  mover = max w (t .mover);
   fixed = t .fixed;
 }
 
@@ -54,7 +53,7 @@ withShares w f row p t = cond (has p row) (withMover w (getD row p 0) (eqb f p) 
 
 -- at most sixty-four tasks are counted
 pub record Light (t : Tally) : Type 0 where
-  pub load : t .load .0 ≤ tasksLimit * commonLimit
+  pub load : t .load ≤ tasksLimit * commonLimit
   pub movers : t .movers ≤ tasksLimit
   pub firsts : t .firsts ≤ tasksLimit
 
@@ -67,10 +66,10 @@ Weighed lns =
 -- the rules for core p of m cores of l units
 abbrev pub tallySound : ℕ → ℕ → ℕ → Tally → Bool
 tallySound m l p t =
-    (leb (t .load .0) l && (ltb p m || eqb (t .load .0) 0))
+    (leb (t .load) l && (ltb p m || eqb (t .load) 0))
     && leb (t .movers) 2
     && (not (eqb (t .movers) 2) || eqb (t .firsts) 1)
-    && leb (t .mover .0) (t .fixed .0)
+    && leb (t .mover) (t .fixed)
 
 -- how often t goes into l, 0 where it does not divide it
 abbrev pub timesIn : ℕ → ℕ → ℕ

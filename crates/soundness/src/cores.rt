@@ -11,9 +11,9 @@ ghost use Rattle.soundness.specs.Tally.{tallySound, noTally};
 
 // Its load is at most L, and it has none if it is not among the M cores.
 pub fn core_within(tally: Tally, p: usize, cores: usize, common: u32) -> bool
-    ensures { λ r. ⌜ r ≡ (leb (tally .load .0) common && (ltb p cores || eqb (tally .load .0) 0)) ⌝ }
+    ensures { λ r. ⌜ r ≡ (leb (tally .load) common && (ltb p cores || eqb (tally .load) 0)) ⌝ }
 {
-    (tally.load.0 <= common) & ((p < cores) | (tally.load.0 == 0))
+    (tally.load <= common) & ((p < cores) | (tally.load == 0))
 }
 
 // No more than two movers.
@@ -32,9 +32,9 @@ pub fn one_first(tally: Tally) -> bool
 
 // A fixed task weighs at least as much as each mover.
 pub fn guarded(tally: Tally) -> bool
-    ensures { λ r. ⌜ r ≡ leb (tally .mover .0) (tally .fixed .0) ⌝ }
+    ensures { λ r. ⌜ r ≡ leb (tally .mover) (tally .fixed) ⌝ }
 {
-    tally.mover.0 <= tally.fixed.0
+    tally.mover <= tally.fixed
 }
 
 // All rules for a core.

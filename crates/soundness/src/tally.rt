@@ -14,64 +14,56 @@ ghost use Rattle.assignment.specs.Movers.{firstCore};
 ghost use Rattle.planning.specs.Plan.{rowOf};
 ghost use Rattle.soundness.specs.Tally.{noTally, tallyOf, withFixed, withMover, withShares, Light, Weighed};
 
-// Of one core: its load, its movers, those whose first core it is, the heaviest mover and the heaviest fixed task.
+// Of one core: its load, its movers, those whose first core it is, the weight of the heaviest mover and of the heaviest fixed task.
 pub struct Tally {
-    pub load: Share,
+    pub load: u32,
     pub movers: u32,
     pub firsts: u32,
-    pub mover: Share,
-    pub fixed: Share,
+    pub mover: u32,
+    pub fixed: u32,
 }
 
 // The heavier of two weights.
-fn heavier(a: Share, b: Share) -> Share
-    ensures { λ r. ⌜ r .0 ≡ max (a .0) (b .0) ⌝ }
+fn heavier(a: u32, b: u32) -> u32
+    ensures { λ r. ⌜ r ≡ max a b ⌝ }
 {
-    if a.0 < b.0 { b } else { a }
+    if a < b { b } else { a }
 }
 
 impl Tally {
     pub const NONE: Tally = Tally {
-        load: Share::EMPTY,
+        load: 0,
         movers: 0,
         firsts: 0,
-        mover: Share::EMPTY,
-        fixed: Share::EMPTY,
+        mover: 0,
+        fixed: 0,
     };
 
     // With one fixed task more.
-    pub fn with_fixed(self, weight: Share) -> Tally
-        requires { ⌜ Light self × (weight .0 ≤ commonLimit) ⌝ }
-        ensures { λ r. ⌜ r ≡ withFixed (weight .0) self ⌝ }
+    pub fn with_fixed(self, weight: u32) -> Tally
+        requires { ⌜ Light self × (weight ≤ commonLimit) ⌝ }
+        ensures { λ r. ⌜ r ≡ withFixed weight self ⌝ }
     {
-        let fixed = self.fixed;
-        let sum = weight.0 + self.load.0;
-        let load = Share(sum);
-        let heaviest = heavier(weight, fixed);
         let mut tally = self;
-        tally.load = load;
-        tally.fixed = heaviest;
+        tally.load = weight + self.load;
+        tally.fixed = heavier(weight, self.fixed);
         tally
     }
 
-    // With one mover more, of which it is the first core or not.
-    pub fn with_mover(self, weight: Share, share: Share, first: bool) -> Tally
-        requires { ⌜ Light self × (share .0 ≤ commonLimit) ⌝ }
-        ensures { λ r. ⌜ r ≡ withMover (weight .0) (share .0) first self ⌝ }
+    // With a share of one mover more, whose first core it is or not.
+    pub fn with_mover(self, weight: u32, share: u32, first: bool) -> Tally
+        requires { ⌜ Light self × (share ≤ commonLimit) ⌝ }
+        ensures { λ r. ⌜ r ≡ withMover weight share first self ⌝ }
     {
         let mut firsts = self.firsts;
         if first {
             firsts = 1 + firsts;
         }
-        let mover = self.mover;
-        let sum = share.0 + self.load.0;
-        let load = Share(sum);
-        let heaviest = heavier(weight, mover);
         let mut tally = self;
-        tally.load = load;
+        tally.load = share + self.load;
         tally.movers = 1 + self.movers;
         tally.firsts = firsts;
-        tally.mover = heaviest;
+        tally.mover = heavier(weight, self.mover);
         tally
     }
 }
@@ -107,7 +99,7 @@ fn with_shares(
         let s = shares[p];
         if 0 < s.0 {
             let t = all[p];
-            all[p] = t.with_mover(weight, s, first == p);
+            all[p] = t.with_mover(weight.0, s.0, first == p);
         }
         p += 1;
     }
@@ -131,7 +123,7 @@ pub fn tallies_of(lines: [Line; TASKS]) -> [Tally; CORES]
             let s = shares[first];
             if s.0 == weight.0 {
                 let t = tallies[first];
-                tallies[first] = t.with_fixed(weight);
+                tallies[first] = t.with_fixed(weight.0);
             } else {
                 tallies = with_shares(tallies, weight, shares, first);
             }
