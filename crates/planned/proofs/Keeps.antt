@@ -42,7 +42,7 @@ module _ (m l : ℕ) (xs ws : List ℕ) (f : Fits m l xs ws) where
   held = placed m l ws (f .cores-some) (f .cores-few) (f .each) (f .all)
 
   -- each line has its task's numbers, or none
-  each-line : (P : Line → Type 0) → P emptyLine → P noLine → ((k : ℕ) → k < length xs / 2 → P (line (getD xs (2 * k) 0) (getD xs (2 * k + 1) 0) (getD ws k 0) (getD rows k [])))
+  pub each-line : (P : Line → Type 0) → P emptyLine → P noLine → ((k : ℕ) → k < length xs / 2 → P (line (getD xs (2 * k) 0) (getD xs (2 * k + 1) 0) (getD ws k 0) (getD rows k [])))
       → (i : ℕ) → P (getD (paddedLines (linesOf xs ws rows)) i noLine)
   each-line P e n t i =
       by-cases (ltb i (length xs / 2))

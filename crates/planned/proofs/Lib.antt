@@ -1,3 +1,4 @@
 pub mod Lines
 pub mod Keeps
 pub mod Taken
+pub mod Sound
