@@ -8,6 +8,7 @@ use lib.ListN.{getD}
 use Rattle.units.specs.Limits.{tasksLimit, commonLimit}
 use Rattle.lists.specs.Lists.{sum}
 use Rattle.lists.specs.Rows.{count, column, top}
+use Rattle.arith.specs.Divisor.{gcd}
 use Rattle.assignment.specs.Movers.{has, fixedOn, movesOn, lower}
 use Rattle.planning.specs.declared.Line.{Line}
 use Rattle.planning.specs.Plan.{noLine, rowOf}
@@ -71,6 +72,6 @@ tallySound m l p t =
     && (not (eqb (t .movers) 2) || eqb (t .firsts) 1)
     && leb (t .mover) (t .fixed)
 
--- how often t goes into l, 0 where it does not divide it
-abbrev pub timesIn : ℕ → ℕ → ℕ
-timesIn l t = cond (eqb (l % t) 0) (l / t) 0
+-- the greatest common divisor of g and of l / t, 0 where t does not divide l
+abbrev pub divisorWith : ℕ → ℕ → ℕ → ℕ
+divisorWith g l t = cond (eqb (l % t) 0) (gcd g (l / t)) 0

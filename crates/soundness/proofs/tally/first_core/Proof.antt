@@ -23,13 +23,13 @@ loop-holds c = omega arith
 mul-s : tie.Need-mul-s Inv-loop μ-loop
 mul-s c = omega arith
 
-array-copy-out-s : tie.Need-array-copy-out-s Inv-loop μ-loop
-array-copy-out-s c = omega arith
+element-copy-out-s : tie.Need-element-copy-out-s Inv-loop μ-loop
+element-copy-out-s c = omega arith
 
 returns : tie.Need-returns Inv-loop μ-loop
 returns c =
-    let ss = c .before .before .before .before .before .args .t1 in
-    let at = c .before .before .before .before .loop in
+    let ss = c .before .before .before .args .t1 in
+    let at = c .before .before .loop in
     let l : length ss ≡ coresLimit = search needs in
     first-here ss (at .p) (omega arith) (at .inv .1) (c .if1 .taken)
 
@@ -41,8 +41,8 @@ loop-less c = omega arith
 
 loop-again : tie.Need-loop-again Inv-loop μ-loop
 loop-again c =
-    let ss = c .before .before .before .before .before .args .t1 in
-    let at = c .before .before .before .before .loop in
+    let ss = c .before .before .before .args .t1 in
+    let at = c .before .before .loop in
     let l : length ss ≡ coresLimit = search needs in
     (omega arith, first-later ss (at .p) (omega arith) (at .inv .1) (c .if1 .left))
 
@@ -60,7 +60,7 @@ first-core-spec =
     μ-loop
     loop-holds
     mul-s
-    array-copy-out-s
+    element-copy-out-s
     returns
     add-p
     loop-less
