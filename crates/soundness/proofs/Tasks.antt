@@ -22,7 +22,7 @@ use Rattle.planning.specs.declared.Plan.{Plan}
 use Rattle.planning.specs.Plan.{noLine}
 use Rattle.soundness.specs.Rules.{numbersIn, commonIs, lineEmpty}
 use Rattle.soundness.specs.Plan.{allBelow, lineSound, lineOk}
-use Rattle.soundness.specs.Tally.{divisorWith}
+use Rattle.soundness.specs.Tests.{divisorWith}
 use Rattle.soundness.proofs.Below.{below-suc}
 
 -- cores, tasks and the common period in their ranges, and a line for each of sixty-four tasks

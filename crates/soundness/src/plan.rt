@@ -2,9 +2,9 @@
 use crate::cores::cores_sound;
 use crate::lines::line_empty;
 use crate::lines::line_sound;
-use crate::tally::tallies_of;
 use arith::divisor::gcd;
 use planning::Plan;
+use tally::tallies_of;
 use units::limits::COMMON;
 use units::limits::CORES;
 use units::limits::TASKS;
@@ -14,7 +14,7 @@ ghost use Prim.Native.Nat.{_<_};
 ghost use Rattle.units.specs.Limits.{tasksLimit};
 ghost use Rattle.soundness.specs.Rules.{numbersIn, commonIs};
 ghost use Rattle.soundness.specs.Plan.{allBelow, lineOk, planSound};
-ghost use Rattle.soundness.specs.Tally.{divisorWith};
+ghost use Rattle.soundness.specs.Tests.{divisorWith};
 
 // Cores, tasks and the common period are in their ranges.
 pub fn numbers_in(plan: Plan) -> bool

@@ -1,4 +1,4 @@
--- `soundness::tally::with_shares` meets its contract: the cores that are passed have their shares.
+-- `tally::with_shares` meets its contract: the cores that are passed have their shares.
 use Prim.Native.Nat.{_-_, _≤_}
 use mathlib.Core.Path.{_≡_, _∙_}
 use mathlib.Core.Logic.{⊎-elim}
@@ -9,10 +9,10 @@ use Rattle.units.specs.Limits.{coresLimit}
 use Rattle.units.specs.Units.{nums}
 use Rattle.units.proofs.Units.{nums-at}
 use Rattle.lists.proofs.Lists.{getD-le-sum}
-use Rattle.soundness.specs.Tally.{withShares, noTally}
-use Rattle.soundness.proofs.Put.{Put, put-none, put-set, put-skip, share-put, share-none}
-use Rattle.soundness.proofs.tally.with_shares.Statement.{statement}
-use Rattle.soundness.proofs.tally.with_shares.Tie as tie
+use Rattle.tally.specs.Tally.{withShares, noTally}
+use Rattle.tally.proofs.Put.{Put, put-none, put-set, put-skip, share-put, share-none}
+use Rattle.tally.proofs.with_shares.Statement.{statement}
+use Rattle.tally.proofs.with_shares.Tie as tie
 
 abbrev Inv-loop : tie.InvT-loop
 Inv-loop weight first shares all₀ p₀ all p = (p ≤ coresLimit) × Put (withShares weight first (nums shares)) all₀ p all

@@ -12,7 +12,7 @@ ghost use Rattle.units.specs.Units.{nums};
 ghost use Rattle.lists.specs.Lists.{sum};
 ghost use Rattle.assignment.specs.Movers.{firstCore};
 ghost use Rattle.planning.specs.Plan.{rowOf};
-ghost use Rattle.soundness.specs.Tally.{noTally, tallyOf, withFixed, withMover, withShares, Light, Weighed};
+ghost use Rattle.tally.specs.Tally.{noTally, tallyOf, withFixed, withMover, withShares, Light, Weighed};
 
 // Of one core: its load, its movers, those whose first core it is, the weight of the heaviest mover and of the heaviest fixed task.
 pub struct Tally {

@@ -1,4 +1,4 @@
--- `soundness::tally::tallies_of` meets its contract: the tasks from i on are counted.
+-- `tally::tallies_of` meets its contract: the tasks from i on are counted.
 use Prim.Native.Nat.{ℕ, _<_, _+_, _-_, _≤_}
 use mathlib.Core.Path.{_≡_}
 use mathlib.Core.List.{List, _∷_, map}
@@ -9,12 +9,12 @@ use Rattle.units.specs.Limits.{coresLimit, tasksLimit, commonLimit}
 use Rattle.lists.specs.Lists.{sum}
 use Rattle.planning.specs.declared.Line.{Line}
 use Rattle.planning.specs.Plan.{noLine, rowOf}
-use Rattle.soundness.specs.declared.tally.Tally.{Tally}
-use Rattle.soundness.specs.Tally.{noTally, Light}
-use Rattle.soundness.proofs.Wide.{wide}
-use Rattle.soundness.proofs.Counted.{Counted, start, lights, rows-from, none-more, fixed-more, mover-more}
-use Rattle.soundness.proofs.tally.tallies_of.Statement.{statement}
-use Rattle.soundness.proofs.tally.tallies_of.Tie as tie
+use Rattle.tally.specs.declared.Tally.{Tally}
+use Rattle.tally.specs.Tally.{noTally, Light}
+use Rattle.tally.proofs.Wide.{wide}
+use Rattle.tally.proofs.Counted.{Counted, start, lights, rows-from, none-more, fixed-more, mover-more}
+use Rattle.tally.proofs.tallies_of.Statement.{statement}
+use Rattle.tally.proofs.tallies_of.Tie as tie
 
 abbrev Inv-loop : tie.InvT-loop
 Inv-loop lines tallies₀ i₀ tallies i = (i ≤ tasksLimit) × Counted (drop i (map rowOf lines)) tallies
