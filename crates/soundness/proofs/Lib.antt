@@ -2,9 +2,5 @@ pub mod Passed
 pub mod Below
 pub mod Ranges
 pub mod Tasks
-pub mod Put
-pub mod Added
-pub mod Counted
-pub mod Wide
 pub mod Whole
 pub mod Facts

@@ -1,11 +1,11 @@
 -- The tasks of a plan tested from the last to the first.
 use Prim.Native.Nat.{ℕ, _+_, _*_, _/_, _%_, _≤_, _<_, _∣_}
-use mathlib.Core.Path.{_≡_, refl, sym, ap, ap₂, _∙_}
+use mathlib.Core.Path.{_≡_, refl, sym, ap, _∙_}
 use mathlib.Core.Bool.{Bool, true, false, _&&_}
 use mathlib.Core.List.{List, [], _∷_, map}
 use native.Mathlib.Omega.{arith}
 use native.Mathlib.Numerals.{add-one}
-use native.Mathlib.Nat.{mod-eq-zero-of-dvd, dvd-of-mod-eq-zero, div-mul-cancel}
+use native.Mathlib.Nat.{zero-mul, mod-eq-zero-of-dvd, dvd-of-mod-eq-zero, eq-zero-of-zero-dvd, div-mul-cancel}
 use lib.Dec.{leb, eqb}
 use lib.ListN.{length, getD, take, drop, length-map, drop-of-length-le, List·getD-map}
 use lib.Seq.{drop-cons, getD-take, length-take-le}
@@ -14,6 +14,7 @@ use Rattle.units.specs.Limits.{coresLimit, tasksLimit, commonLimit}
 use Rattle.lists.proofs.Tests.{by-cases, and-left, and-right, and-true, same-bool}
 use Rattle.arith.specs.Divisor.{gcd}
 use Rattle.arith.specs.Period.{common}
+use Rattle.arith.proofs.Euclid.{gcd-right}
 use Rattle.arith.proofs.Common.{Each, common-each}
 use Rattle.arith.proofs.Cofactor.{gcdAll, cofactors, cofactor-common, common-cofactor}
 use Rattle.planning.specs.declared.Line.{Line}
@@ -22,7 +23,7 @@ use Rattle.planning.specs.Plan.{noLine}
 use Rattle.soundness.specs.Rules.{numbersIn, commonIs, lineEmpty}
 use Rattle.lists.specs.Below.{allBelow}
 use Rattle.soundness.specs.Plan.{lineSound, lineOk}
-use Rattle.soundness.specs.Tally.{timesIn}
+use Rattle.soundness.specs.Tests.{divisorWith}
 use Rattle.soundness.proofs.Below.{below-suc}
 
 -- cores, tasks and the common period in their ranges, and a line for each of sixty-four tasks
@@ -57,12 +58,19 @@ numbers pl e h =
       long = h;
     }
 
--- a period that goes into L divides it
-times : (l t q : ℕ) → q ≡ timesIn l t → (q ≡ 0 → ⊥) → (t ∣ l) × (q ≡ l / t)
-times l t q e z =
+-- a period that divides L: its quotient is joined to the others
+joined : (g l t : ℕ) → (divisorWith g l t ≡ 0 → ⊥) → (t ∣ l) × (divisorWith g l t ≡ gcd g (l / t))
+joined g l t z =
     by-cases (eqb (l % t) 0)
-    (λ u. (dvd-of-mod-eq-zero t (eqb-true (l % t) 0 u), rw u at e))
-    (λ u. absurd (z (rw u at e)))
+    (λ u. (dvd-of-mod-eq-zero t (eqb-true (l % t) 0 u), rw u))
+    (λ u. absurd (z (rw u)))
+
+-- nothing but 0 divides a quotient of 0
+parted : (g l t : ℕ) → t ∣ l → divisorWith g l t ≡ 0 → l ≡ 0
+parted g l t d e =
+    let z : gcd g (l / t) ≡ 0 = rw (eq-eqb (l % t) 0 (mod-eq-zero-of-dvd t d)) at e in
+    let q : l / t ≡ 0 = eq-zero-of-zero-dvd (rw z at (gcd-right g (l / t))) in
+    sym (div-mul-cancel t d) ∙ ap (λ (x : ℕ). x * t) q ∙ zero-mul t
 
 -- the rules for a task, and for a line past the last
 pub task-ok : (pl : Plan) (i : ℕ) → i < pl .count → lineOk pl i ≡ lineSound (pl .common) (getD (pl .lines) i noLine)
@@ -115,13 +123,10 @@ module _ (pl : Plan) (n : Numbers pl) where
       rw (eqb-true (pl .common) (common (periodsOf pl)) e, ← (periods-at i h)) (common-each (periodsOf pl) i (omega (arith, periods-long)))
 
   -- a period that does not divide L
-  pub period-breaks : (i : ℕ) → i < pl .count → timesIn (pl .common) (periodAt pl i) ≡ 0 → (allBelow tasksLimit (lineOk pl) && commonIs pl) ≡ false
-  period-breaks i h e =
+  pub period-breaks : (g i : ℕ) → i < pl .count → divisorWith g (pl .common) (periodAt pl i) ≡ 0 → (allBelow tasksLimit (lineOk pl) && commonIs pl) ≡ false
+  period-breaks g i h e =
       by-cases (commonIs pl)
-      (λ t.
-      let d : periodAt pl i ∣ pl .common = divides t i h in
-      let q : pl .common / periodAt pl i ≡ 0 = rw (eq-eqb (pl .common % periodAt pl i) 0 (mod-eq-zero-of-dvd (periodAt pl i) d)) at e in
-      absurd (omega (arith, n .common-some, div-mul-cancel (periodAt pl i) d, ap (λ (x : ℕ). x * periodAt pl i) q)))
+      (λ t. absurd (omega (arith, n .common-some, parted g (pl .common) (periodAt pl i) (divides t i h) e)))
       (λ f. rw f (and-false (allBelow tasksLimit (lineOk pl))))
     where
       and-false : (a : Bool) → (a && false) ≡ false
@@ -141,14 +146,14 @@ module _ (pl : Plan) (n : Numbers pl) where
       task-breaks e = breaks (task-ok pl i h ∙ e)
 
       -- a sound task more
-      pub task-more : (q : ℕ) → lineSound (pl .common) (getD (pl .lines) i noLine) ≡ true → q ≡ timesIn (pl .common) (periodAt pl i) → (q ≡ 0 → ⊥) → Checked pl (gcd g q) i
-      task-more q e t z =
-          let d = times (pl .common) (periodAt pl i) q t z in
+      pub task-more : (g′ : ℕ) → lineSound (pl .common) (getD (pl .lines) i noLine) ≡ true → g′ ≡ divisorWith g (pl .common) (periodAt pl i) → (g′ ≡ 0 → ⊥) → Checked pl g′ i
+      task-more g′ e t z =
+          let d = joined g (pl .common) (periodAt pl i) (λ u. z (t ∙ u)) in
           record {
             below = omega (arith, n .count-few);
             lines = holds (task-ok pl i h ∙ e);
             each = λ j a b. by-cases (eqb j i) (λ u. rw (eqb-true j i u) (d .0)) (λ u. k .each j (omega (arith, eqb-false j i u)) b);
-            divisor = ap₂ gcd (k .divisor) (d .1) ∙ sym (ap (λ (ts : List ℕ). gcdAll (cofactors (pl .common) ts)) (periods-from i h));
+            divisor = t ∙ d .1 ∙ ap (λ (x : ℕ). gcd x (pl .common / periodAt pl i)) (k .divisor) ∙ sym (ap (λ (ts : List ℕ). gcdAll (cofactors (pl .common) ts)) (periods-from i h));
           }
 
     module _ (h : pl .count ≤ i) where

@@ -1,3 +1,3 @@
 pub mod Rules
 pub mod Plan
-pub mod Tally
+pub mod Tests

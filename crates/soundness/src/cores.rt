@@ -1,5 +1,5 @@
 // The rules for one core, by its tally.
-use crate::tally::Tally;
+use tally::Tally;
 use units::limits::CORES;
 ghost use mathlib.Core.Path.{_≡_};
 ghost use mathlib.Core.Bool.{_&&_, _||_, not};
@@ -7,41 +7,45 @@ ghost use lib.Dec.{ltb, leb, eqb};
 ghost use lib.ListN.{getD};
 ghost use Rattle.units.specs.Limits.{coresLimit};
 ghost use Rattle.lists.specs.Below.{allBelow};
-ghost use Rattle.soundness.specs.Tally.{tallySound, noTally};
+ghost use Rattle.tally.specs.Tally.{noTally};
+ghost use Rattle.soundness.specs.Tests.{tallySound};
 
-// Its load is at most L, and it has none if it is not among the M cores.
-pub fn core_within(tally: Tally, p: usize, cores: usize, common: u32) -> bool
-    ensures { λ r. ⌜ r ≡ (leb (tally .load) common && (ltb p cores || eqb (tally .load) 0)) ⌝ }
+// The load of core p is at most L, and 0 if it is not among the M cores.
+pub fn core_within(load: u32, p: usize, cores: usize, common: u32) -> bool
+    ensures { λ r. ⌜ r ≡ (leb load common && (ltb p cores || eqb load 0)) ⌝ }
 {
-    (tally.load <= common) & ((p < cores) | (tally.load == 0))
+    (load <= common) & ((p < cores) | (load == 0))
 }
 
 // No more than two movers.
-pub fn few_movers(tally: Tally) -> bool
-    ensures { λ r. ⌜ r ≡ leb (tally .movers) 2 ⌝ }
+pub fn few_movers(movers: u32) -> bool
+    ensures { λ r. ⌜ r ≡ leb movers 2 ⌝ }
 {
-    tally.movers <= 2
+    movers <= 2
 }
 
-// Of two it is the first core of exactly one.
-pub fn one_first(tally: Tally) -> bool
-    ensures { λ r. ⌜ r ≡ (not (eqb (tally .movers) 2) || eqb (tally .firsts) 1) ⌝ }
+// Of two movers it is the first core of exactly one.
+pub fn one_first(movers: u32, firsts: u32) -> bool
+    ensures { λ r. ⌜ r ≡ (not (eqb movers 2) || eqb firsts 1) ⌝ }
 {
-    !(tally.movers == 2) | (tally.firsts == 1)
+    !(movers == 2) | (firsts == 1)
 }
 
-// A fixed task weighs at least as much as each mover.
-pub fn guarded(tally: Tally) -> bool
-    ensures { λ r. ⌜ r ≡ leb (tally .mover) (tally .fixed) ⌝ }
+// The heaviest fixed task weighs at least as much as the heaviest mover.
+pub fn guarded(mover: u32, fixed: u32) -> bool
+    ensures { λ r. ⌜ r ≡ leb mover fixed ⌝ }
 {
-    tally.mover <= tally.fixed
+    mover <= fixed
 }
 
 // All rules for a core.
 pub fn core_sound(tally: Tally, p: usize, cores: usize, common: u32) -> bool
     ensures { λ r. ⌜ r ≡ tallySound cores common p tally ⌝ }
 {
-    core_within(tally, p, cores, common) & few_movers(tally) & one_first(tally) & guarded(tally)
+    core_within(tally.load, p, cores, common)
+        & few_movers(tally.movers)
+        & one_first(tally.movers, tally.firsts)
+        & guarded(tally.mover, tally.fixed)
 }
 
 // All rules for all cores.

@@ -2,4 +2,3 @@
 pub mod cores;
 pub mod lines;
 pub mod plan;
-pub mod tally;

@@ -2,21 +2,20 @@
 use crate::cores::cores_sound;
 use crate::lines::line_empty;
 use crate::lines::line_sound;
-use crate::tally::tallies_of;
 use arith::divisor::gcd;
-use planning::Line;
 use planning::Plan;
+use tally::tallies_of;
 use units::limits::COMMON;
 use units::limits::CORES;
 use units::limits::TASKS;
 ghost use mathlib.Core.Path.{_≡_};
 ghost use mathlib.Core.Bool.{true, _&&_};
+ghost use Prim.Native.Nat.{_<_};
 ghost use Rattle.units.specs.Limits.{tasksLimit};
-ghost use Rattle.arith.specs.Divisor.{gcd as gcdOf};
-ghost use Rattle.soundness.specs.Rules.{numbersIn, lineIn, commonIs};
+ghost use Rattle.soundness.specs.Rules.{numbersIn, commonIs};
 ghost use Rattle.lists.specs.Below.{allBelow};
 ghost use Rattle.soundness.specs.Plan.{lineOk, planSound};
-ghost use Rattle.soundness.specs.Tally.{timesIn};
+ghost use Rattle.soundness.specs.Tests.{divisorWith};
 
 // Cores, tasks and the common period are in their ranges.
 pub fn numbers_in(plan: Plan) -> bool
@@ -30,24 +29,18 @@ pub fn numbers_in(plan: Plan) -> bool
         & (plan.common <= COMMON)
 }
 
-// How often a task's period goes into L, 0 where it does not divide it.
-fn times_in(common: u32, line: Line) -> u32
-    requires { ⌜ lineIn line ≡ true ⌝ }
-    ensures { λ r. ⌜ r ≡ timesIn common (line .period .0) ⌝ }
+// The greatest common divisor of the quotients so far and of L / T, 0 where T does not divide L; once 1 it stays 1.
+fn divisor_with(divisor: u32, common: u32, period: u32) -> u32
+    requires { ⌜ 0 < period ⌝ }
+    ensures { λ r. ⌜ r ≡ divisorWith divisor common period ⌝ }
 {
-    let period = line.period.0 as u32;
-    if common % period == 0 {
-        common / period
-    } else {
-        0
+    if common % period != 0 {
+        return 0;
     }
-}
-
-// The greatest common divisor with one number more; it stays 1.
-fn divisor_with(divisor: u32, times: u32) -> u32
-    ensures { λ r. ⌜ r ≡ gcdOf divisor times ⌝ }
-{
-    if divisor == 1 { 1 } else { gcd(divisor, times) }
+    if divisor == 1 {
+        return 1;
+    }
+    gcd(divisor, common / period)
 }
 
 // The rules for all tasks.
@@ -66,11 +59,10 @@ pub fn tasks_sound(plan: Plan) -> bool
             if !line_sound(common, line) {
                 return false;
             }
-            let times = times_in(common, line);
-            if times == 0 {
+            divisor = divisor_with(divisor, common, line.period.0 as u32);
+            if divisor == 0 {
                 return false;
             }
-            divisor = divisor_with(divisor, times);
         } else {
             if !line_empty(line) {
                 return false;

@@ -1,11 +1,14 @@
 -- `soundness::plan::tasks_sound` meets its contract: the tasks from i on are tested.
 use Prim.Native.Nat.{_+_, _-_}
+use mathlib.Core.Bool.{true}
 use mathlib.Core.Path.{_≡_, sym, _∙_}
 use native.Mathlib.Omega.{arith}
 use lib.ListN.{getD, length-map}
 use borrow.Author.Tests.{not-true, not-false}
+use Rattle.planning.specs.declared.Line.{Line}
 use Rattle.planning.specs.Plan.{noLine}
-use Rattle.soundness.proofs.Ranges.{sound-in}
+use Rattle.soundness.specs.Plan.{lineSound}
+use Rattle.soundness.proofs.Ranges.{InRange, in-range, sound-in}
 use Rattle.soundness.proofs.Tasks.{Numbers, numbers, Checked, start, period-breaks, task-breaks, task-more, past-breaks, past-more, finish}
 use Rattle.soundness.proofs.plan.tasks_sound.Statement.{statement}
 use Rattle.soundness.proofs.plan.tasks_sound.Tie as tie
@@ -19,7 +22,10 @@ abbrev μ-loop : tie.MeasureT-loop
 known : (c : tie.Start Inv-loop μ-loop) → Numbers (c .args .t1)
 known c = numbers (c .args .t1) (c .pre) (sym (length-map (c .args .t1 .lines) _) ∙ c .good .0 .1 .1 .1 .1 .1 .0 .1 .0 .1)
 
--- the invariant at the line that is tested
+-- the line that is tested, and the invariant there
+abbrev lineOf : tie.In-loop Inv-loop μ-loop → Line
+lineOf c = getD (c .before .before .args .t1 .lines) (c .before .loop .i - 1) noLine
+
 tested : (c : tie.In-loop Inv-loop μ-loop) → Checked (c .before .before .args .t1) (c .before .loop .divisor) ((c .before .loop .i - 1) + 1)
 tested c =
     let e : (c .before .loop .i - 1) + 1 ≡ c .before .loop .i = omega arith in
@@ -46,19 +52,26 @@ returns c =
     sym (task-breaks (l .before .before .args .t1) (known (l .before .before)) (l .before .loop .divisor) (l .before .loop .i - 1) (tested l) (c .before .before .if1 .taken)
     (sym (c .before .line-sound .ensures) ∙ not-true (c .before .line-sound .result) (c .if2 .taken)))
 
-times-in-requires : tie.Need-times-in-requires Inv-loop μ-loop
-times-in-requires c κs =
-    let s = c .before .before .before .before .before .before .args .t1 in
-    sound-in (s .common) (getD (s .lines) (c .before .before .before .before .before .loop .i - 1) noLine) (sym (c .before .line-sound .ensures) ∙ not-false (c .before .line-sound .result) (c .if2 .left))
+sound : (c : tie.Else2 Inv-loop μ-loop) → lineSound (c .before .before .before .before .before .before .args .t1 .common) (lineOf (c .before .before .before .before)) ≡ true
+sound c = sym (c .before .line-sound .ensures) ∙ not-false (c .before .line-sound .result) (c .if2 .left)
+
+-- a task that is sound is in range
+in-use : (c : tie.Else2 Inv-loop μ-loop) → InRange (lineOf (c .before .before .before .before))
+in-use c =
+    let l = c .before .before .before .before in
+    in-range (lineOf l) (sound-in (l .before .before .args .t1 .common) (lineOf l) (sound c))
+
+cast-divisor-with : tie.Need-cast-divisor-with Inv-loop μ-loop
+cast-divisor-with c = let r = in-use (c .before) in omega arith
+
+divisor-with-requires : tie.Need-divisor-with-requires Inv-loop μ-loop
+divisor-with-requires c κs = let r = in-use (c .before) in omega arith
 
 returns-2 : tie.Need-returns-2 Inv-loop μ-loop
 returns-2 c =
-    let l = c .before .before .before .before .before .before in
-    sym (period-breaks (l .before .before .args .t1) (known (l .before .before)) (l .before .loop .i - 1) (c .before .before .before .before .if1 .taken)
-    (sym (c .before .times-in .ensures) ∙ c .if3 .taken))
-
-divisor-with-requires : tie.Need-divisor-with-requires Inv-loop μ-loop
-divisor-with-requires c κs = tt
+    let l = c .before .before .before .before .before .before .before in
+    sym (period-breaks (l .before .before .args .t1) (known (l .before .before)) (l .before .loop .divisor) (l .before .loop .i - 1) (c .before .before .before .before .before .if1 .taken)
+    (sym (c .before .divisor-with .ensures) ∙ c .if3 .taken))
 
 loop-less : tie.Need-loop-less Inv-loop μ-loop
 loop-less c = omega arith
@@ -66,11 +79,8 @@ loop-less c = omega arith
 loop-again : tie.Need-loop-again Inv-loop μ-loop
 loop-again c =
     let l = c .before .before .before .before .before .before .before in
-    let ok = c .before .before .before .before .line-sound in
-    let q = c .before .before .times-in in
-    rw (c .divisor-with .ensures)
-    (task-more (l .before .before .args .t1) (known (l .before .before)) (l .before .loop .divisor) (l .before .loop .i - 1) (tested l) (c .before .before .before .before .before .if1 .taken)
-    (q .result) (sym (ok .ensures) ∙ not-false (ok .result) (c .before .before .before .if2 .left)) (q .ensures) (c .before .if3 .left))
+    task-more (l .before .before .args .t1) (known (l .before .before)) (l .before .loop .divisor) (l .before .loop .i - 1) (tested l) (c .before .before .before .before .before .if1 .taken)
+    (c .before .divisor-with .result) (sound (c .before .before .before)) (c .before .divisor-with .ensures) (c .if3 .left)
 
 line-empty-requires : tie.Need-line-empty-requires Inv-loop μ-loop
 line-empty-requires c κs = tt
@@ -107,9 +117,9 @@ tasks-sound-spec =
     element-copy-out-line
     line-sound-requires
     returns
-    times-in-requires
-    returns-2
+    cast-divisor-with
     divisor-with-requires
+    returns-2
     loop-less
     loop-again
     line-empty-requires

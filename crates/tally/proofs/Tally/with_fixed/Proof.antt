@@ -1,7 +1,7 @@
--- `soundness::tally::Tally::with_fixed` meets its contract.
+-- `tally::Tally::with_fixed` meets its contract.
 use borrow.Author.Needs.{needs}
-use Rattle.soundness.proofs.tally.Tally.with_fixed.Statement.{statement}
-use Rattle.soundness.proofs.tally.Tally.with_fixed.Tie as tie
+use Rattle.tally.proofs.Tally.with_fixed.Statement.{statement}
+use Rattle.tally.proofs.Tally.with_fixed.Tie as tie
 
 add-tally : tie.Need-add-tally
 add-tally c = search needs

@@ -1,4 +1,4 @@
--- `soundness::tally::with_shares` meets its contract: the cores that are passed have their shares.
+-- `tally::with_shares` meets its contract: the cores that are passed have their shares.
 use Prim.Native.Nat.{_-_, _≤_}
 use mathlib.Core.Path.{_≡_, _∙_}
 use mathlib.Core.Logic.{⊎-elim}
@@ -9,13 +9,13 @@ use Rattle.units.specs.Limits.{coresLimit}
 use Rattle.units.specs.Units.{nums}
 use Rattle.units.proofs.Units.{nums-at}
 use Rattle.lists.proofs.Lists.{getD-le-sum}
-use Rattle.soundness.specs.Tally.{withShares, noTally}
-use Rattle.soundness.proofs.Put.{Put, put-none, put-set, put-skip, share-put, share-none}
-use Rattle.soundness.proofs.tally.with_shares.Statement.{statement}
-use Rattle.soundness.proofs.tally.with_shares.Tie as tie
+use Rattle.tally.specs.Tally.{withShares, noTally}
+use Rattle.tally.proofs.Put.{Put, put-none, put-set, put-skip, share-put, share-none}
+use Rattle.tally.proofs.with_shares.Statement.{statement}
+use Rattle.tally.proofs.with_shares.Tie as tie
 
 abbrev Inv-loop : tie.InvT-loop
-Inv-loop weight first shares all₀ p₀ all p = (p ≤ coresLimit) × Put (withShares (weight .0) first (nums shares)) all₀ p all
+Inv-loop weight first shares all₀ p₀ all p = (p ≤ coresLimit) × Put (withShares weight first (nums shares)) all₀ p all
 
 abbrev μ-loop : tie.MeasureT-loop
 μ-loop weight first shares all₀ p₀ all p = coresLimit - p
@@ -24,13 +24,13 @@ loop-holds : tie.Need-loop-holds Inv-loop μ-loop
 loop-holds c =
     let s = c .args in
     let l : length (s .tallies) ≡ coresLimit = search needs in
-    (omega arith, put-none (withShares (s .weight .0) (s .first) (nums (s .t3))) (s .tallies) l)
+    (omega arith, put-none (withShares (s .weight) (s .first) (nums (s .t3))) (s .tallies) l)
 
 mul-s : tie.Need-mul-s Inv-loop μ-loop
 mul-s c = omega arith
 
-array-copy-out-s : tie.Need-array-copy-out-s Inv-loop μ-loop
-array-copy-out-s c = omega arith
+element-copy-out-s : tie.Need-element-copy-out-s Inv-loop μ-loop
+element-copy-out-s c = omega arith
 
 mul-t : tie.Need-mul-t Inv-loop μ-loop
 mul-t c = omega arith
@@ -40,8 +40,8 @@ array-copy-out-t c = omega arith
 
 with-mover-requires : tie.Need-with-mover-requires Inv-loop μ-loop
 with-mover-requires c κs =
-    let at = c .before .before .before .before .before .loop in
-    let s = c .before .before .before .before .before .before in (
+    let at = c .before .before .before .loop in
+    let s = c .before .before .before .before in (
       rw (at .inv .1 .left (at .p) (omega arith)) (s .pre .0 (at .p) (omega arith)),
       omega (arith, s .pre .1, getD-le-sum (nums (s .args .t3)) (at .p), nums-at (s .args .t3) (at .p)),
     )
@@ -60,17 +60,17 @@ loop-less c = omega arith
 
 loop-again : tie.Need-loop-again Inv-loop μ-loop
 loop-again c =
-    let s = c .before .before .before .before .before .args in
-    let at = c .before .before .before .before .loop in
+    let s = c .before .before .before .args in
+    let at = c .before .before .loop in
     let old = getD (s .tallies) (at .p) noTally in
-    let f = withShares (s .weight .0) (s .first) (nums (s .t3)) in (
+    let f = withShares (s .weight) (s .first) (nums (s .t3)) in (
       omega arith,
       ⊎-elim
           (λ t. rw (t .3)
           (put-set f (s .tallies) (at .p) (at .all) (at .inv .1) (omega arith) (t .2 .result)
-          (rw (at .inv .1 .left (at .p) (omega arith)) at (t .2 .ensures) ∙ share-put (s .weight .0) (s .first) (s .t3) (at .p) old (t .0 .taken))))
+          (rw (at .inv .1 .left (at .p) (omega arith)) at (t .2 .ensures) ∙ share-put (s .weight) (s .first) (s .t3) (at .p) old (t .0 .taken))))
           (λ t. rw (t .1)
-          (put-skip f (s .tallies) (at .p) (at .all) (at .inv .1) (omega arith) (share-none (s .weight .0) (s .first) (s .t3) (at .p) old (t .0 .left))))
+          (put-skip f (s .tallies) (at .p) (at .all) (at .inv .1) (omega arith) (share-none (s .weight) (s .first) (s .t3) (at .p) old (t .0 .left))))
           (c .if1 .came),
     )
 
@@ -85,7 +85,7 @@ with-shares-spec =
     μ-loop
     loop-holds
     mul-s
-    array-copy-out-s
+    element-copy-out-s
     mul-t
     array-copy-out-t
     with-mover-requires

@@ -12,7 +12,7 @@ ghost use Rattle.units.specs.Units.{nums};
 ghost use Rattle.lists.specs.Lists.{sum};
 ghost use Rattle.assignment.specs.Movers.{firstCore};
 ghost use Rattle.planning.specs.Plan.{rowOf};
-ghost use Rattle.soundness.specs.Tally.{noTally, tallyOf, withFixed, withMover, withShares, Light, Weighed};
+ghost use Rattle.tally.specs.Tally.{noTally, tallyOf, withFixed, withMover, withShares, Light, Weighed};
 
 // Of one core: its load, its movers, those whose first core it is, the weight of the heaviest mover and of the heaviest fixed task.
 pub struct Tally {
@@ -74,8 +74,8 @@ fn first_core(shares: [Share; CORES]) -> usize
 {
     let mut p: usize = 0;
     while p < CORES {
-        let s = shares[p];
-        if 0 < s.0 {
+        let s = shares[p].0;
+        if 0 < s {
             return p;
         }
         p += 1;
@@ -86,20 +86,20 @@ fn first_core(shares: [Share; CORES]) -> usize
 // With a mover's shares.
 fn with_shares(
     tallies: [Tally; CORES],
-    weight: Share,
+    weight: u32,
     shares: [Share; CORES],
     first: usize,
 ) -> [Tally; CORES]
     requires { ⌜ ((p : ℕ) → p < coresLimit → Light (getD tallies p noTally)) × (sum (nums shares) ≤ commonLimit) ⌝ }
-    ensures { λ r. ⌜ ((p : ℕ) → p < coresLimit → getD r p noTally ≡ withShares (weight .0) first (nums shares) p (getD tallies p noTally)) ⌝ }
+    ensures { λ r. ⌜ ((p : ℕ) → p < coresLimit → getD r p noTally ≡ withShares weight first (nums shares) p (getD tallies p noTally)) ⌝ }
 {
     let mut all = tallies;
     let mut p: usize = 0;
     while p < CORES {
-        let s = shares[p];
-        if 0 < s.0 {
+        let s = shares[p].0;
+        if 0 < s {
             let t = all[p];
-            all[p] = t.with_mover(weight.0, s.0, first == p);
+            all[p] = t.with_mover(weight, s, first == p);
         }
         p += 1;
     }
@@ -117,13 +117,13 @@ pub fn tallies_of(lines: [Line; TASKS]) -> [Tally; CORES]
         i -= 1;
         let line = lines[i];
         let shares = line.shares;
-        let weight = line.weight;
+        let weight = line.weight.0;
         let first = first_core(shares);
         if first < CORES {
-            let s = shares[first];
-            if s.0 == weight.0 {
+            let s = shares[first].0;
+            if s == weight {
                 let t = tallies[first];
-                tallies[first] = t.with_fixed(weight.0);
+                tallies[first] = t.with_fixed(weight);
             } else {
                 tallies = with_shares(tallies, weight, shares, first);
             }

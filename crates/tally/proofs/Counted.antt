@@ -21,9 +21,9 @@ use Rattle.lists.proofs.Lists.{getD-le-sum}
 use Rattle.assignment.specs.Movers.{firstCore, movesOn, lower}
 use Rattle.planning.specs.declared.Line.{Line}
 use Rattle.planning.specs.Plan.{noLine, rowOf}
-use Rattle.soundness.specs.declared.tally.Tally.{Tally}
-use Rattle.soundness.specs.Tally.{noTally, tallyOf, withFixed, withShares, Light, Weighed}
-use Rattle.soundness.proofs.Added.{withRow, tally-more, no-share, is-fixed, is-mover, first-in, first-out, fixed-parts, moves-parts, others-none}
+use Rattle.tally.specs.declared.Tally.{Tally}
+use Rattle.tally.specs.Tally.{noTally, tallyOf, withFixed, withShares, Light, Weighed}
+use Rattle.tally.proofs.Added.{withRow, tally-more, no-share, is-fixed, is-mover, first-in, first-out, fixed-parts, moves-parts, others-none}
 
 -- the tasks of a table are counted
 pub record Counted (tab : List (List ℕ)) (ts : List Tally) : Type 0 where

@@ -1,4 +1,4 @@
--- `soundness::tally::first_core` meets its contract: the cores that are passed have no share.
+-- `tally::first_core` meets its contract: the cores that are passed have no share.
 use Prim.Native.Nat.{_+_, _-_, _≤_}
 use mathlib.Core.Path.{_≡_, ap}
 use native.Mathlib.Omega.{arith}
@@ -7,9 +7,9 @@ use borrow.Author.Needs.{needs}
 use Rattle.units.specs.Limits.{coresLimit}
 use Rattle.units.specs.Units.{nums}
 use Rattle.lists.specs.Lists.{firstPart}
-use Rattle.soundness.proofs.Passed.{first-here, first-later, none-left}
-use Rattle.soundness.proofs.tally.first_core.Statement.{statement}
-use Rattle.soundness.proofs.tally.first_core.Tie as tie
+use Rattle.tally.proofs.First.{first-here, first-later, none-left}
+use Rattle.tally.proofs.first_core.Statement.{statement}
+use Rattle.tally.proofs.first_core.Tie as tie
 
 abbrev Inv-loop : tie.InvT-loop
 Inv-loop shares p₀ p = (p ≤ coresLimit) × (p + firstPart (drop p (nums shares)) ≡ firstPart (nums shares))
@@ -23,13 +23,13 @@ loop-holds c = omega arith
 mul-s : tie.Need-mul-s Inv-loop μ-loop
 mul-s c = omega arith
 
-array-copy-out-s : tie.Need-array-copy-out-s Inv-loop μ-loop
-array-copy-out-s c = omega arith
+element-copy-out-s : tie.Need-element-copy-out-s Inv-loop μ-loop
+element-copy-out-s c = omega arith
 
 returns : tie.Need-returns Inv-loop μ-loop
 returns c =
-    let ss = c .before .before .before .before .before .args .t1 in
-    let at = c .before .before .before .before .loop in
+    let ss = c .before .before .before .args .t1 in
+    let at = c .before .before .loop in
     let l : length ss ≡ coresLimit = search needs in
     first-here ss (at .p) (omega arith) (at .inv .1) (c .if1 .taken)
 
@@ -41,8 +41,8 @@ loop-less c = omega arith
 
 loop-again : tie.Need-loop-again Inv-loop μ-loop
 loop-again c =
-    let ss = c .before .before .before .before .before .args .t1 in
-    let at = c .before .before .before .before .loop in
+    let ss = c .before .before .before .args .t1 in
+    let at = c .before .before .loop in
     let l : length ss ≡ coresLimit = search needs in
     (omega arith, first-later ss (at .p) (omega arith) (at .inv .1) (c .if1 .left))
 
@@ -60,7 +60,7 @@ first-core-spec =
     μ-loop
     loop-holds
     mul-s
-    array-copy-out-s
+    element-copy-out-s
     returns
     add-p
     loop-less

@@ -12,8 +12,8 @@ use Rattle.units.specs.Limits.{coresLimit}
 use Rattle.units.specs.Units.{share, nums}
 use Rattle.units.proofs.Units.{nums-at}
 use Rattle.lists.proofs.Tests.{by-cases}
-use Rattle.soundness.specs.declared.tally.Tally.{Tally}
-use Rattle.soundness.specs.Tally.{noTally, withMover, withShares}
+use Rattle.tally.specs.declared.Tally.{Tally}
+use Rattle.tally.specs.Tally.{noTally, withMover, withShares}
 
 -- p cores are passed
 pub record Put (f : ℕ → Tally → Tally) (old : List Tally) (p : ℕ) (new : List Tally) : Type 0 where

@@ -1,8 +1,8 @@
--- `soundness::tally::Tally::with_mover` meets its contract.
+-- `tally::Tally::with_mover` meets its contract.
 use mathlib.Core.Logic.{⊎-elim}
 use borrow.Author.Needs.{needs}
-use Rattle.soundness.proofs.tally.Tally.with_mover.Statement.{statement}
-use Rattle.soundness.proofs.tally.Tally.with_mover.Tie as tie
+use Rattle.tally.proofs.Tally.with_mover.Statement.{statement}
+use Rattle.tally.proofs.Tally.with_mover.Tie as tie
 
 add-firsts : tie.Need-add-firsts
 add-firsts c = search needs

@@ -13,8 +13,8 @@ use Rattle.lists.proofs.Tests.{by-cases}
 use Rattle.lists.proofs.Lists.{getD-le-sum, sum-set, sum-take-suc, sum-ends, parts-le, parts-some}
 use Rattle.lists.proofs.Parts.{parts-split, parts-one, first-below}
 use Rattle.assignment.specs.Movers.{has, fixed, moves, firstCore, fixedOn, movesOn, lower}
-use Rattle.soundness.specs.declared.tally.Tally.{Tally}
-use Rattle.soundness.specs.Tally.{tallyOf, withFixed, withShares}
+use Rattle.tally.specs.declared.Tally.{Tally}
+use Rattle.tally.specs.Tally.{tallyOf, withFixed, withShares}
 
 -- five numbers of a core
 abbrev tally : ℕ → ℕ → ℕ → ℕ → ℕ → Tally

@@ -1,9 +1,9 @@
 -- What the tasks put on each core, counted and summed. Cores are counted from 0.
-use Prim.Native.Nat.{ℕ, _+_, _*_, _/_, _%_, _≤_, _<_, max}
+use Prim.Native.Nat.{ℕ, _+_, _*_, _≤_, _<_, max}
 use mathlib.Core.Path.{_≡_}
-use mathlib.Core.Bool.{Bool, cond, _&&_, _||_, not}
+use mathlib.Core.Bool.{Bool, cond}
 use mathlib.Core.List.{List}
-use lib.Dec.{ltb, leb, eqb}
+use lib.Dec.{eqb}
 use lib.ListN.{getD}
 use Rattle.units.specs.Limits.{tasksLimit, commonLimit}
 use Rattle.lists.specs.Lists.{sum}
@@ -11,7 +11,7 @@ use Rattle.lists.specs.Rows.{count, column, top}
 use Rattle.assignment.specs.Movers.{has, fixedOn, movesOn, lower}
 use Rattle.planning.specs.declared.Line.{Line}
 use Rattle.planning.specs.Plan.{noLine, rowOf}
-use Rattle.soundness.specs.declared.tally.Tally.{Tally}
+use Rattle.tally.specs.declared.Tally.{Tally}
 
 -- what stands past the last core
 abbrev pub noTally : Tally
@@ -62,15 +62,3 @@ abbrev pub Weighed : List Line → Type 0
 Weighed lns =
     (i : ℕ) → i < tasksLimit
     → (sum (rowOf (getD lns i noLine)) ≡ getD lns i noLine .weight .0) × (getD lns i noLine .weight .0 ≤ commonLimit)
-
--- the rules for core p of m cores of l units
-abbrev pub tallySound : ℕ → ℕ → ℕ → Tally → Bool
-tallySound m l p t =
-    (leb (t .load) l && (ltb p m || eqb (t .load) 0))
-    && leb (t .movers) 2
-    && (not (eqb (t .movers) 2) || eqb (t .firsts) 1)
-    && leb (t .mover) (t .fixed)
-
--- how often t goes into l, 0 where it does not divide it
-abbrev pub timesIn : ℕ → ℕ → ℕ
-timesIn l t = cond (eqb (l % t) 0) (l / t) 0

@@ -1,0 +1,5 @@
+pub mod First
+pub mod Put
+pub mod Added
+pub mod Counted
+pub mod Wide
