@@ -58,3 +58,8 @@ unfolding allBelow
 all-same zero f g h = refl
 all-same (suc n) f g h =
     rw (h n (omega arith)) (ap (λ (b : Bool). g n && b) (all-same n f g (λ i l. h i (omega arith))))
+
+-- the last of them and the others
+pub all-suc : (f : ℕ → Bool) (n : ℕ) → allBelow (n + 1) f ≡ (f n && allBelow n f)
+unfolding allBelow
+all-suc f n = rw (add-one n)

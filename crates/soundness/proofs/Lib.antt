@@ -1,5 +1,3 @@
-pub mod Passed
-pub mod Below
 pub mod Ranges
 pub mod Tasks
 pub mod Whole

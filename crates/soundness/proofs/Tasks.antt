@@ -24,7 +24,7 @@ use Rattle.soundness.specs.Rules.{numbersIn, commonIs, lineEmpty}
 use Rattle.lists.specs.Below.{allBelow}
 use Rattle.soundness.specs.Plan.{lineSound, lineOk}
 use Rattle.soundness.specs.Tests.{divisorWith}
-use Rattle.soundness.proofs.Below.{below-suc}
+use Rattle.lists.proofs.Below.{all-suc}
 
 -- cores, tasks and the common period in their ranges, and a line for each of sixty-four tasks
 pub record Numbers (pl : Plan) : Type 0 where
@@ -135,10 +135,10 @@ module _ (pl : Plan) (n : Numbers pl) where
 
   module _ (g i : ℕ) (k : Checked pl g (i + 1)) where
     breaks : lineOk pl i ≡ false → (allBelow tasksLimit (lineOk pl) && commonIs pl) ≡ false
-    breaks e = rw (k .lines, below-suc (lineOk pl) i, e)
+    breaks e = rw (k .lines, all-suc (lineOk pl) i, e)
 
     holds : lineOk pl i ≡ true → allBelow tasksLimit (lineOk pl) ≡ allBelow i (lineOk pl)
-    holds e = k .lines ∙ below-suc (lineOk pl) i ∙ rw e
+    holds e = k .lines ∙ all-suc (lineOk pl) i ∙ rw e
 
     module _ (h : i < pl .count) where
       -- a task that breaks a rule

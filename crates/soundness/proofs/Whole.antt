@@ -17,18 +17,18 @@ use Rattle.lists.specs.Below.{allBelow}
 use Rattle.soundness.specs.Plan.{lineSound, lineOk, coreSound, planSound}
 use Rattle.tally.specs.Tally.{noTally, tallyOf, Weighed}
 use Rattle.soundness.specs.Tests.{tallySound}
-use Rattle.soundness.proofs.Below.{below-at, below-same}
+use Rattle.lists.proofs.Below.{all-at, all-same}
 use Rattle.soundness.proofs.Ranges.{sound-sum, sound-small, Zero, empty-zero}
 use Rattle.soundness.proofs.Tasks.{Numbers, task-ok, past-ok}
 
 module _ (pl : Plan) (n : Numbers pl) (e : allBelow tasksLimit (lineOk pl) ≡ true) where
   -- a task of a plan whose lines are sound
   pub task-sound : (i : ℕ) → i < pl .count → lineSound (pl .common) (getD (pl .lines) i noLine) ≡ true
-  task-sound i h = sym (task-ok pl i h) ∙ below-at (lineOk pl) tasksLimit e i (omega (arith, n .count-few))
+  task-sound i h = sym (task-ok pl i h) ∙ all-at tasksLimit i (lineOk pl) (omega (arith, n .count-few)) e
 
   -- a line past the last
   pub past-zero : (i : ℕ) → pl .count ≤ i → i < tasksLimit → Zero (getD (pl .lines) i noLine)
-  past-zero i h l = empty-zero (getD (pl .lines) i noLine) (sym (past-ok pl i h) ∙ below-at (lineOk pl) tasksLimit e i l)
+  past-zero i h l = empty-zero (getD (pl .lines) i noLine) (sym (past-ok pl i h) ∙ all-at tasksLimit i (lineOk pl) l e)
 
   -- its shares sum to its weight, which is at most the largest L
   pub lines-weighed : Weighed (pl .lines)
@@ -75,4 +75,4 @@ module _ (pl : Plan) where
   unfolding tallyOf
   cores-decide ts n t at =
       groups ∙ ap₂ (λ (a b : Bool). a && b && cores) n t
-      ∙ below-same (coreSound pl) (λ p. tallySound (pl .cores) (pl .common) p (getD ts p noTally)) coresLimit (λ p h. rw (at p h))
+      ∙ all-same coresLimit (coreSound pl) (λ p. tallySound (pl .cores) (pl .common) p (getD ts p noTally)) (λ p h. rw (at p h))

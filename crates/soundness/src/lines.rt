@@ -1,28 +1,11 @@
 // The rules for one task's line.
 use planning::Line;
-use units::limits::CORES;
+use rows::sum_of;
 use units::limits::PERIOD;
-use units::share::Share;
 ghost use mathlib.Core.Bool.{true};
 ghost use mathlib.Core.Path.{_≡_};
-ghost use Rattle.lists.specs.Lists.{sum};
-ghost use Rattle.units.specs.Units.{nums};
 ghost use Rattle.soundness.specs.Rules.{lineIn, weightIs, sharesSum, lineEmpty};
 ghost use Rattle.soundness.specs.Plan.{lineSound};
-
-// The sum of a row of shares, which may need more than 32 bits.
-pub fn sum_of(shares: [Share; CORES]) -> u64
-    ensures { λ r. ⌜ r ≡ sum (nums shares) ⌝ }
-{
-    let mut sum: u64 = 0;
-    let mut p: usize = 0;
-    while p < CORES {
-        let s = shares[p];
-        sum += s.0 as u64;
-        p += 1;
-    }
-    sum
-}
 
 // Cost and period are in their ranges.
 pub fn line_in(line: Line) -> bool

@@ -1,4 +1,3 @@
-pub mod First
 pub mod Put
 pub mod Added
 pub mod Counted

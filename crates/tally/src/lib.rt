@@ -1,5 +1,6 @@
 // What the tasks put on each core.
 use planning::Line;
+use rows::first_core;
 use units::limits::CORES;
 use units::limits::TASKS;
 use units::share::Share;
@@ -10,7 +11,6 @@ ghost use lib.ListN.{getD};
 ghost use Rattle.units.specs.Limits.{coresLimit, commonLimit};
 ghost use Rattle.units.specs.Units.{nums};
 ghost use Rattle.lists.specs.Lists.{sum};
-ghost use Rattle.assignment.specs.Movers.{firstCore};
 ghost use Rattle.planning.specs.Plan.{rowOf};
 ghost use Rattle.tally.specs.Tally.{noTally, tallyOf, withFixed, withMover, withShares, Light, Weighed};
 
@@ -66,21 +66,6 @@ impl Tally {
         tally.mover = heavier(weight, self.mover);
         tally
     }
-}
-
-// The lowest core with a share, CORES where there is none.
-fn first_core(shares: [Share; CORES]) -> usize
-    ensures { λ r. ⌜ r ≡ firstCore (nums shares) ⌝ }
-{
-    let mut p: usize = 0;
-    while p < CORES {
-        let s = shares[p].0;
-        if 0 < s {
-            return p;
-        }
-        p += 1;
-    }
-    p
 }
 
 // With a mover's shares.

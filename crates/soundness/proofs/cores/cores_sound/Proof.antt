@@ -8,7 +8,7 @@ use Rattle.units.specs.Limits.{coresLimit}
 use Rattle.lists.specs.Below.{allBelow}
 use Rattle.tally.specs.Tally.{noTally}
 use Rattle.soundness.specs.Tests.{tallySound}
-use Rattle.soundness.proofs.Below.{below-suc}
+use Rattle.lists.proofs.Below.{all-suc}
 use Rattle.soundness.proofs.cores.cores_sound.Statement.{statement}
 use Rattle.soundness.proofs.cores.cores_sound.Tie as tie
 
@@ -44,7 +44,7 @@ loop-again c =
     let at = c .before .before .before .loop in (
       omega arith,
       ap₂ (λ (a b : Bool). a && b) (c .core-sound .ensures) (at .inv .1)
-          ∙ sym (below-suc (λ q. tallySound (s .cores) (s .common) q (getD (s .t1) q noTally)) (at .p)),
+          ∙ sym (all-suc (λ q. tallySound (s .cores) (s .common) q (getD (s .t1) q noTally)) (at .p)),
     )
 
 returns : tie.Need-returns Inv-loop μ-loop
