@@ -9,3 +9,4 @@ pub mod Shape
 pub mod Scatter
 pub mod Placed
 pub mod Properties
+pub mod Guarded
