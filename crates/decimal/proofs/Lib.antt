@@ -1,0 +1,4 @@
+pub mod Wrote
+pub mod Decimal
+pub mod Negative
+pub mod Back

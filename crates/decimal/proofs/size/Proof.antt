@@ -1,0 +1,46 @@
+-- `decimal::size` meets its contract.
+use borrow.Author.Needs.{needs}
+use native.Mathlib.Omega.{arith}
+use native.Mathlib.Numerals.{add-one}
+use mathlib.Core.Path.{_≡_, sym, ap, subst, _∙_}
+use lib.Dec.{T}
+use lib.IntN.{ℤ, natAbs, pos}
+use lib.Signed.{nonNeg}
+use mir.Syntax.{w64}
+use mir.Val.{SFits, Fits}
+use Prim.Native.Nat.{ℕ, _+_}
+use Rattle.decimal.proofs.Negative.{Down, down, Up, upward, mag-neg}
+use Rattle.decimal.proofs.size.Statement.{statement}
+use Rattle.decimal.proofs.size.Tie as tie
+
+below : (c : tie.Then1) → Down (c .before .args .z)
+below c = down (c .before .args .z) (c .before .fits .z) (c .if1 .taken)
+
+above : (c : tie.Else1) → Up (c .before .args .z)
+above c = upward (c .before .args .z) (c .before .fits .z) (c .if1 .left)
+
+add-result : tie.Need-add-result
+add-result c = rw (below c .up) (mag-neg (below c .n) (below c .small))
+
+sub-result : tie.Need-sub-result
+sub-result c = rw (below c .over) (record { sfits = below c .small })
+
+cast-result : tie.Need-cast-result
+cast-result c = let d = below c in rw (d .all) (tt, record { fits = omega (arith, d .small) })
+
+add-result-2 : tie.Need-add-result-2
+add-result-2 c = let d = below c in rw (d .all) (record { fits = omega (arith, d .small) })
+
+cast-result-2 : tie.Need-cast-result-2
+cast-result-2 c = let d = above c in rw (d .all) (tt, record { fits = omega (arith, d .small) })
+
+returns : tie.Need-returns
+returns c = let d = below c in rw (d .all) (add-one (d .n) ∙ ap natAbs (sym (d .is)))
+
+returns-2 : tie.Need-returns-2
+returns-2 c = search needs
+
+pub size-spec : {M : Type 1} → statement M
+size-spec =
+    tie.close
+    (tie.spec add-result sub-result cast-result add-result-2 cast-result-2 returns returns-2)

@@ -1,0 +1,5 @@
+pub mod Limits
+pub mod Ascii
+pub mod Decimal
+pub mod Wrote
+pub mod Value
