@@ -4,14 +4,15 @@ use mathlib.Core.Path.{_≡_}
 use mathlib.Core.List.{List, [], _∷_, _++_}
 use native.Mathlib.Nat.{pow-suc}
 use native.Mathlib.Omega.{arith}
-use native.Mathlib.Decide.{decLt}
-use borrow.Author.Tests.{lt-ltb, le-ltb}
+use borrow.Author.Tests.{lt-ltb, le-ltb, ltb-true, ltb-false}
+use lib.Dec.{ltb}
 use lib.ListN.{length, length-append}
+use Rattle.lists.proofs.Tests.{by-cases}
 use Rattle.decimal.specs.Decimal.{decimalF, decimalOf}
 
 -- one order or the other
 pub either {ℓ} : {X : Type ℓ} (a b : ℕ) → (a < b → X) → (b ≤ a → X) → X
-either a b f g = elim (decLt a b) [ yes h ↦ f h | no h ↦ g (omega arith) ]
+either a b f g = by-cases (ltb a b) (λ e. f (ltb-true a b e)) (λ e. g (ltb-false a b e))
 
 -- any count of steps that is large enough gives the same digits
 same-digits : (f g n : ℕ) → n < f → n < g → decimalF f n ≡ decimalF g n

@@ -1,4 +1,7 @@
 pub mod Wrote
 pub mod Decimal
-pub mod Negative
+pub mod Signed
 pub mod Back
+pub mod Plain
+pub mod SignedBack
+pub mod Examples

@@ -39,3 +39,7 @@ pub whole : {a b : List ℕ} {k : ℕ} {xs : List ℕ} → Wrote a 0 xs b k → 
 whole {a} {b} {k} {xs} w h =
     let e : 0 + length xs ≡ length xs = omega arith in
     w .bytes ∙ sets-eq xs a 0 (omega arith) ∙ ap (λ (m : ℕ). xs ++ drop m a) e
+
+-- it settles each byte of the buffer and the answer
+pub settled : {a b d : List ℕ} {i j k : ℕ} {xs : List ℕ} → Wrote a i xs b j → Wrote a i xs d k → (b ≡ d) × (j ≡ k)
+settled p q = (p .bytes ∙ sym (q .bytes), p .end ∙ sym (q .end))

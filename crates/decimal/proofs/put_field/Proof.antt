@@ -1,6 +1,5 @@
+-- `decimal::put_field` meets its contract: one text after another.
 use borrow.Author.Needs.{needs}
-use native.Mathlib.Omega.{arith}
-use mathlib.Core.Path.{_∙_, _≡_}
 use Rattle.decimal.proofs.Wrote.{then}
 use Rattle.decimal.proofs.put_field.Statement.{statement}
 use Rattle.decimal.proofs.put_field.Tie as tie

@@ -1,5 +1,6 @@
+-- `decimal::put_signed` meets its contract: a minus sign and the size, or the size alone.
 use borrow.Author.Needs.{needs}
-use Rattle.decimal.proofs.Negative.{signed-below, signed-above, down, upward}
+use Rattle.decimal.proofs.Signed.{signed-below, signed-above, down, upward}
 use Rattle.decimal.proofs.Wrote.{then, recast}
 use Rattle.decimal.proofs.put_signed.Statement.{statement}
 use Rattle.decimal.proofs.put_signed.Tie as tie

@@ -1,10 +1,10 @@
--- `decimal::put_text` meets its contract. The invariant: the first i bytes of the text have been written.
+-- `decimal::put_text` meets its contract: the first i bytes of the text are written.
 use borrow.Author.Needs.{needs}
 use Prim.Native.Nat.{_≤_, _<_, _-_}
 use native.Mathlib.Omega.{arith}
 use mathlib.Core.Path.{_≡_, ap, _∙_, sym}
-use lib.ListN.{length, take, getD}
-use lib.Seq.{take-suc, take-length, length-sets, length-take-le}
+use lib.ListN.{length, take}
+use lib.Seq.{take-suc, take-length, length-take-le}
 use native.Mathlib.Numerals.{add-one}
 use Rattle.decimal.specs.Wrote.{Wrote}
 use Rattle.decimal.proofs.Wrote.{then, none, recast}

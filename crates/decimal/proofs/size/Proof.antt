@@ -1,26 +1,23 @@
--- `decimal::size` meets its contract.
-use borrow.Author.Needs.{needs}
+-- `decimal::size` meets its contract: the way round by one more, so that the lowest number does not overflow.
 use native.Mathlib.Omega.{arith}
 use native.Mathlib.Numerals.{add-one}
-use mathlib.Core.Path.{_≡_, sym, ap, subst, _∙_}
-use lib.Dec.{T}
-use lib.IntN.{ℤ, natAbs, pos}
-use lib.Signed.{nonNeg}
-use mir.Syntax.{w64}
-use mir.Val.{SFits, Fits}
-use Prim.Native.Nat.{ℕ, _+_}
-use Rattle.decimal.proofs.Negative.{Down, down, Up, upward, mag-neg}
+use mathlib.Core.Path.{sym, ap, _∙_}
+use lib.IntN.{natAbs}
+use borrow.Author.Needs.{needs}
+use Rattle.decimal.proofs.Signed.{Down, down, Up, upward, neg-fits}
 use Rattle.decimal.proofs.size.Statement.{statement}
 use Rattle.decimal.proofs.size.Tie as tie
 
+-- below 0
 below : (c : tie.Then1) → Down (c .before .args .z)
 below c = down (c .before .args .z) (c .before .fits .z) (c .if1 .taken)
 
+-- not below 0
 above : (c : tie.Else1) → Up (c .before .args .z)
 above c = upward (c .before .args .z) (c .before .fits .z) (c .if1 .left)
 
 add-result : tie.Need-add-result
-add-result c = rw (below c .up) (mag-neg (below c .n) (below c .small))
+add-result c = rw (below c .up) (neg-fits (below c .n) (below c .small))
 
 sub-result : tie.Need-sub-result
 sub-result c = rw (below c .over) (record { sfits = below c .small })
