@@ -1,0 +1,53 @@
+-- A text has at most 2,048 numbers: each of them takes two bytes or more.
+use Prim.Native.Nat.{ℕ, zero, suc, _+_, _-_, _*_, _≤_, _<_}
+use mathlib.Core.Path.{_≡_, refl}
+use mathlib.Core.List.{List}
+use native.Mathlib.Omega.{arith}
+use borrow.Author.Tests.{ltb-true, ltb-false}
+use lib.Dec.{ltb, eqb}
+use lib.ListN.{length}
+use Rattle.lists.proofs.Tests.{by-cases}
+use Rattle.reading.specs.Line.{newline, coresLine, taskLine}
+use Rattle.reading.specs.Text.{textLimit, unreadableFrom, thenLater, numbersFrom, tableFrom, afterCores, textOf, numbersOf}
+use Rattle.reading.proofs.Fields.{field-after, task-after}
+use Rattle.reading.specs.declared.number.Number.{Number}
+use Rattle.reading.specs.declared.number.Number.the-variants.{Value, NoNumber}
+use Rattle.reading.specs.declared.line.TaskLine.{TaskLine}
+use Rattle.reading.specs.declared.line.TaskLine.the-variants.{Task, NoTask}
+
+-- one line, of four bytes or more, before the later ones
+line-fits : (n at : ℕ) (later : ℕ → List ℕ) (line : TaskLine) → at < n → ((c t next : ℕ) → line ≡ Task c t next → at + 4 ≤ next)
+    → ((next : ℕ) → 2 * length (later next) ≤ n + 3 - next) → 2 * length (thenLater later line) ≤ n + 3 - at
+unfolding thenLater
+line-fits n at later (Task c t next) h f g = omega (arith, f c t next refl, g next)
+line-fits n at later NoTask h f g = omega arith
+
+-- the numbers from a place on; the last line may end past the text by three bytes
+numbers-fit : (f : ℕ) (s : List ℕ) (at : ℕ) → 2 * length (numbersFrom f s at) ≤ length s + 3 - at
+unfolding numbersFrom
+numbers-fit zero s at = omega arith
+numbers-fit (suc f) s at =
+    by-cases (ltb at (length s))
+    (λ h. rw h (line-fits (length s) at (λ next. numbersFrom f s next) (taskLine s at) (ltb-true at (length s) h) (λ c t next e. task-after s at c t next e) (λ next. numbers-fit f s next)))
+    (λ h. rw h (omega arith))
+
+-- a table that starts at the third byte or later
+table-fits : (s : List ℕ) (m at : ℕ) → 2 ≤ at → length s ≤ textLimit → length (numbersOf (tableFrom s m at)) ≤ 2048
+unfolding tableFrom numbersOf
+table-fits s m at h k =
+    by-cases (eqb (unreadableFrom (length s) s 2 at) 0) (λ e. rw e (omega (arith, numbers-fit (length s) s at))) (λ e. rw e (omega arith))
+
+after-fits : (s : List ℕ) (n : Number) → length s ≤ textLimit → ((m at : ℕ) → n ≡ Value m at → 2 ≤ at) → length (numbersOf (afterCores s n)) ≤ 2048
+unfolding afterCores numbersOf
+after-fits s (Value m at) h f = table-fits s m at (f m at refl) h
+after-fits s NoNumber h f = omega arith
+
+-- the numbers of a text
+pub text-fits : (s : List ℕ) → length (numbersOf (textOf s)) ≤ 2048
+unfolding textOf coresLine numbersOf
+text-fits s =
+    by-cases (ltb textLimit (length s))
+    (λ h. rw h (omega arith))
+    (λ h. by-cases (eqb (length s) 0)
+    (λ e. rw (h, e) (omega arith))
+    (λ e. rw (h, e) (after-fits s (coresLine s) (ltb-false textLimit (length s) h) (λ m at q. field-after s newline 0 m at q))))

@@ -1,0 +1,63 @@
+use borrow.Author.Needs.{needs}
+use Prim.Native.Nat.{suc, _+_, _-_, _<_}
+use mathlib.Core.Path.{_≡_, refl, sym, _∙_}
+use native.Mathlib.Omega.{arith}
+use lib.ListN.{length}
+use Rattle.reading.proofs.Tables.{Sought, first, later, here, ended}
+use Rattle.reading.proofs.first_unreadable.Statement.{statement}
+use Rattle.reading.proofs.first_unreadable.Tie as tie
+
+abbrev Inv-loop : tie.InvT-loop
+Inv-loop text from at₀ line₀ at line = Sought text from line at
+
+abbrev μ-loop : tie.MeasureT-loop
+μ-loop text from at₀ line₀ at line = length text + 2 - line
+
+loop-holds : tie.Need-loop-holds Inv-loop μ-loop
+loop-holds c = first _ _
+
+read-task-requires : tie.Need-read-task-requires Inv-loop μ-loop
+read-task-requires c κs = search needs
+
+enum-told : tie.Need-enum-told Inv-loop μ-loop
+enum-told c = search needs
+
+returns : tie.Need-returns Inv-loop μ-loop
+returns c =
+    let n = c .before .before .before in
+    let l = n .before .loop in
+    sym (here _ _ _ _ (l .inv) (n .loop-test .taken) (sym (c .before .before .read-task .ensures) ∙ c .enum-told .given .1))
+
+enum-known-c : tie.Need-enum-known-c Inv-loop μ-loop
+enum-known-c c = search needs
+
+add-line : tie.Need-add-line Inv-loop μ-loop
+add-line c = search needs
+
+loop-less : tie.Need-loop-less Inv-loop μ-loop
+loop-less c = search needs
+
+loop-again : tie.Need-loop-again Inv-loop μ-loop
+loop-again c =
+    let k = c .before in
+    let n = k .before .before .before in
+    later _ _ _ _ (n .before .loop .inv) (n .loop-test .taken) (sym (k .before .before .read-task .ensures) ∙ k .c .given .1)
+
+returns-2 : tie.Need-returns-2 Inv-loop μ-loop
+returns-2 c = sym (ended _ _ _ _ (c .before .loop .inv) (c .loop-test .left))
+
+pub first-unreadable-spec : {M : Type 1} → statement M
+first-unreadable-spec =
+    tie.close
+    (tie.spec
+    Inv-loop
+    μ-loop
+    loop-holds
+    read-task-requires
+    enum-told
+    returns
+    enum-known-c
+    add-line
+    loop-less
+    loop-again
+    returns-2)
