@@ -1,11 +1,12 @@
--- A text has at most 2,048 numbers: each of them takes two bytes or more.
+-- A text has at most 2,048 numbers, each of them of two bytes or more: a lent table of that length holds them all.
 use Prim.Native.Nat.{ℕ, zero, suc, _+_, _-_, _*_, _≤_, _<_}
-use mathlib.Core.Path.{_≡_, refl}
-use mathlib.Core.List.{List}
+use mathlib.Core.Path.{_≡_, refl, ap, _∙_}
+use mathlib.Core.List.{List, _++_}
 use native.Mathlib.Omega.{arith}
 use borrow.Author.Tests.{ltb-true, ltb-false}
 use lib.Dec.{ltb, eqb}
-use lib.ListN.{length}
+use lib.ListN.{length, take, drop}
+use lib.Seq.{sets, sets-eq, take-at}
 use Rattle.lists.proofs.Tests.{by-cases}
 use Rattle.reading.specs.Line.{newline, coresLine, taskLine}
 use Rattle.reading.specs.Text.{textLimit, unreadableFrom, thenLater, numbersFrom, tableFrom, afterCores, textOf, numbersOf}
@@ -51,3 +52,9 @@ text-fits s =
     (λ h. by-cases (eqb (length s) 0)
     (λ e. rw (h, e) (omega arith))
     (λ e. rw (h, e) (after-fits s (coresLine s) (ltb-false textLimit (length s) h) (λ m at q. field-after s newline 0 m at q))))
+
+-- so a lent table of 2,048 numbers starts with all of them
+pub table-holds : (s l : List ℕ) → 2048 ≤ length l → take (length (numbersOf (textOf s))) (sets l 0 (numbersOf (textOf s))) ≡ numbersOf (textOf s)
+table-holds s l h =
+    let xs = numbersOf (textOf s) in
+    ap (take (length xs)) (sets-eq xs l 0 (omega (arith, text-fits s))) ∙ take-at xs (drop (0 + length xs) l) (length xs) refl

@@ -8,7 +8,6 @@ use borrow.Author.Tests.{lt-ltb, le-ltb, ne-eqb}
 use lib.ListN.{length, getD, drop, drop-of-length-le}
 use lib.Seq.{drop-cons}
 use Rattle.reading.specs.Number.{numberBound, digitOf, digitsOf, firstOf, numberAt}
-use Rattle.reading.specs.declared.number.Number.{Number}
 use Rattle.reading.specs.declared.number.Number.the-variants.{Value, NoNumber}
 
 module _ (s : List ℕ) (at v d : ℕ) (inside : at < length s) (e : d ≡ digitOf (getD s at 0)) where

@@ -1,7 +1,6 @@
 -- The equations of a line, as the code meets them, and how many bytes a line has at least.
 use Prim.Native.Nat.{ℕ, _+_, _*_, _≤_, _<_}
-use mathlib.Core.Path.{_≡_, refl, sym, _∙_}
-use mathlib.Core.Bool.{cond}
+use mathlib.Core.Path.{_≡_, refl}
 use mathlib.Core.List.{List, [], _∷_}
 use native.Mathlib.Omega.{arith}
 use native.Mathlib.Decide.{decLt}
@@ -13,8 +12,7 @@ use Rattle.reading.specs.Number.{numberBound, digitOf, digitsOf, firstOf
 use Rattle.reading.specs.Line.{newline, blank, followedBy, fieldAt, periodAfter, costAfter, taskLine}
 use Rattle.reading.specs.declared.number.Number.{Number}
 use Rattle.reading.specs.declared.number.Number.the-variants.{Value, NoNumber}
-use Rattle.reading.specs.declared.line.TaskLine.{TaskLine}
-use Rattle.reading.specs.declared.line.TaskLine.the-variants.{Task, NoTask}
+use Rattle.reading.specs.declared.line.TaskLine.the-variants.{Task}
 
 -- a byte that is not 0 stands within the text
 pub inside : (s : List ℕ) (at b : ℕ) → 0 < b → getD s at 0 ≡ b → at < length s

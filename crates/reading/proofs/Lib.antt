@@ -1,6 +1,8 @@
 pub mod Digits
 pub mod Fields
 pub mod Tables
+pub mod Sought
+pub mod Stored
 pub mod Says
-pub mod Examples
 pub mod Count
+pub mod Examples

@@ -26,7 +26,7 @@ unfoldable pub orLater : (ℕ → ℕ) → ℕ → TaskLine → ℕ
 orLater later line (Task c t next) = later next
 orLater later line NoTask = line
 
--- the first unreadable line from a place on, where that line number stands, and 0 if there is none; f is no less than the lines that are left
+-- the first unreadable one of the lines from a place on, where this line starts, and 0 if there is none; f is no less than their number
 unfoldable pub unreadableFrom : ℕ → List ℕ → ℕ → ℕ → ℕ
 unreadableFrom zero s line at = 0
 unreadableFrom (suc f) s line at = cond (ltb at (length s)) (orLater (λ next. unreadableFrom f s (line + 1) next) line (taskLine s at)) 0

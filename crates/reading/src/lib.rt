@@ -10,8 +10,8 @@ ghost use lib.ListN.{length, set};
 ghost use lib.Seq.{sets};
 ghost use Rattle.reading.specs.Text.{textOf, tableFrom, unreadableFrom, numbersFrom, numbersOf, answerOf};
 
-pub mod line;
-pub mod number;
+mod line;
+mod number;
 
 // Bytes of a text, at most.
 pub const BYTES: usize = 4_096;

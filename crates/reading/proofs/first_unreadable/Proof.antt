@@ -1,9 +1,8 @@
 use borrow.Author.Needs.{needs}
-use Prim.Native.Nat.{suc, _+_, _-_, _<_}
-use mathlib.Core.Path.{_≡_, refl, sym, _∙_}
-use native.Mathlib.Omega.{arith}
+use Prim.Native.Nat.{_+_, _-_}
+use mathlib.Core.Path.{sym, _∙_}
 use lib.ListN.{length}
-use Rattle.reading.proofs.Tables.{Sought, first, later, here, ended}
+use Rattle.reading.proofs.Sought.{Sought, first, later, here, ended}
 use Rattle.reading.proofs.first_unreadable.Statement.{statement}
 use Rattle.reading.proofs.first_unreadable.Tie as tie
 

@@ -1,8 +1,9 @@
 use borrow.Author.Needs.{needs}
 use Prim.Native.Nat.{_-_}
-use mathlib.Core.Path.{refl, sym, _∙_}
+use mathlib.Core.Path.{sym, _∙_}
 use lib.ListN.{length}
-use Rattle.reading.proofs.Tables.{Stored, start, more, none-here, whole, numbers-done}
+use Rattle.reading.proofs.Tables.{numbers-done}
+use Rattle.reading.proofs.Stored.{Stored, start, more, none-here, whole}
 use Rattle.reading.proofs.store_tasks.Statement.{statement}
 use Rattle.reading.proofs.store_tasks.Tie as tie
 
