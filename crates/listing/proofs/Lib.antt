@@ -1,0 +1,5 @@
+pub mod Texts
+pub mod Wide
+pub mod Answers
+pub mod Example
+pub mod Fits

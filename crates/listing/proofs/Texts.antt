@@ -1,0 +1,60 @@
+-- The listing's pieces in the form in which the writers meet them.
+use Prim.Native.Nat.{ℕ, zero, suc, _+_, _≤_, _<_}
+use mathlib.Core.Path.{_≡_, refl, sym, ap, _∙_}
+use mathlib.Core.List.{List, [], _∷_, _++_, append-assoc, append-nil}
+use native.Mathlib.Nat.{add-zero}
+use native.Mathlib.Numerals.{add-one}
+use native.Mathlib.Omega.{arith}
+use borrow.Author.Tests.{ne-eqb, lt-ltb, le-ltb}
+use lib.IntN.{ℤ, pos}
+use lib.ListN.{getD, take}
+use Rattle.units.specs.declared.share.Share.{Share}
+use Rattle.units.specs.Units.{share, nums}
+use Rattle.lists.specs.Lists.{parts}
+use Rattle.decimal.specs.Ascii.{ascii}
+use Rattle.planning.specs.declared.Line.{Line}
+use Rattle.planning.specs.Plan.{noLine}
+use Rattle.listing.specs.Listing.{field, shareText, sharesText, rowText, taskText, tasksText}
+
+-- no share, no text
+pub share-none : (p s : ℕ) → s ≡ 0 → [] ≡ shareText p s
+share-none p s e = rw e
+
+-- the text of a positive share
+pub share-some : (p s : ℕ) → (s ≡ 0 → ⊥) → field " " p ++ field ":" s ≡ shareText p s
+share-some p s h = rw (ne-eqb s 0 h)
+
+-- the shares of one core more
+pub shares-more : (p : ℕ) (ss : List Share) (k : ℕ) →
+    sharesText p (nums (take k ss)) ++ shareText (p + k) (getD ss k (share 0) .0) ≡ sharesText p (nums (take (suc k) ss))
+shares-more p [] zero = refl
+shares-more p [] (suc k) = refl
+shares-more p (s ∷ ss) zero = rw (add-zero p) (sym (append-nil (shareText p (s .0))))
+shares-more p (s ∷ ss) (suc k) =
+    append-assoc (shareText p (s .0)) (sharesText (suc p) (nums (take k ss))) (shareText (p + suc k) (getD ss k (share 0) .0))
+    ∙ ap (λ (t : List ℕ). shareText p (s .0) ++ t)
+    (ap (λ (m : ℕ). sharesText (suc p) (nums (take k ss)) ++ shareText m (getD ss k (share 0) .0)) (omega arith) ∙ shares-more (suc p) ss k)
+
+-- the same from core 1 on
+pub cores-more : (ss : List Share) (k : ℕ) →
+    sharesText 1 (nums (take k ss)) ++ shareText (k + 1) (getD ss k (share 0) .0) ≡ sharesText 1 (nums (take (k + 1) ss))
+cores-more ss k =
+    ap (λ (m : ℕ). sharesText 1 (nums (take k ss)) ++ shareText m (getD ss k (share 0) .0)) (omega arith)
+    ∙ shares-more 1 ss k
+    ∙ ap (λ (m : ℕ). sharesText 1 (nums (take m ss))) (sym (add-one k))
+
+-- the row of a task that moves
+pub row-moves : (row : List ℕ) → 1 < parts row → ascii " moves" ++ sharesText 1 row ≡ rowText row
+unfolding rowText
+row-moves row h = rw (lt-ltb 1 (parts row) h)
+
+-- the row of a task that does not
+pub row-fixed : (row : List ℕ) → parts row ≤ 1 → ascii " fixed" ++ sharesText 1 row ≡ rowText row
+unfolding rowText
+row-fixed row h = rw (le-ltb 1 (parts row) h)
+
+-- the lines of one task more
+pub tasks-more : (ls : List Line) (lates : List ℤ) (n : ℕ) →
+    tasksText ls lates n ++ taskText (n + 1) (getD ls n noLine) (getD lates n (pos 0)) ≡ tasksText ls lates (n + 1)
+unfolding tasksText
+tasks-more ls lates n = rw (add-one n) refl

@@ -1,0 +1,36 @@
+-- `listing::listed::list` meets its contract.
+use mathlib.Core.Path.{sym, _∙_}
+use borrow.Author.Tests.{not-true, not-false}
+use Rattle.dispatched.proofs.Records.{held}
+use Rattle.listing.proofs.Answers.{unsound, sound}
+use borrow.Author.Needs.{needs}
+use Rattle.listing.proofs.listed.list.Statement.{statement}
+use Rattle.listing.proofs.listed.list.Tie as tie
+
+sound-requires : tie.Need-sound-requires
+sound-requires c κs = search needs
+
+returns : tie.Need-returns
+returns c =
+    let q = c .before in
+    let s = q .before .before in
+    unsound (s .args .from) (s .args .buf .now) (sym (q .sound .ensures) ∙ not-true (q .sound .result) (c .if1 .taken))
+
+list-plan-requires : tie.Need-list-plan-requires
+list-plan-requires c κs =
+    let i = c .before .before in
+    let s = i .before .before .before in
+    held (s .args .from) (sym (i .before .sound .ensures) ∙ not-false (i .before .sound .result) (i .if1 .left)) .plan
+
+same-length : tie.Need-same-length
+same-length c = search needs
+
+returns-2 : tie.Need-returns-2
+returns-2 c =
+    let p = c .before .before in
+    let i = p .before .before .before in
+    let s = i .before .before .before in
+    sound (s .args .from) (s .args .buf .now) (sym (i .before .sound .ensures) ∙ not-false (i .before .sound .result) (i .if1 .left)) (p .list-plan .ensures .0) (p .list-plan .ensures .1)
+
+pub list-spec : {M : Type 1} → statement M
+list-spec = tie.close (tie.spec sound-requires returns list-plan-requires same-length returns-2)

@@ -1,0 +1,94 @@
+-- `listing::writers::put_tasks` meets its contract: the lines of the first i tasks are written.
+use Prim.Native.Nat.{ℕ, _+_, _*_, _-_, _≤_}
+use native.Mathlib.Nat.{le-antisymm}
+use mathlib.Core.Path.{_≡_, ap, _∙_}
+use mathlib.Core.List.{_++_}
+use mir.Syntax.{w64}
+use mir.Val.{SFits}
+use mir.ValLaws.{toZ-ofZ}
+use lib.IntN.{ℤ, pos}
+use lib.ListN.{length, getD}
+use Rattle.planning.specs.Plan.{noLine}
+use Rattle.decimal.specs.Wrote.{Wrote}
+use Rattle.decimal.proofs.Wrote.{then, recast, none}
+use Rattle.listing.specs.Listing.{taskText, tasksText}
+use Rattle.listing.proofs.Texts.{tasks-more}
+use borrow.Author.Needs.{needs}
+use Rattle.listing.proofs.writers.put_tasks.Statement.{statement}
+use Rattle.listing.proofs.writers.put_tasks.Tie as tie
+
+abbrev Inv-loop : tie.InvT-loop
+Inv-loop buf₀ at count lines lates next₀ i₀ buf next i =
+    (i ≤ count) × Wrote buf₀ at (tasksText lines lates i) buf next × (next ≤ at + 1000 * i) × (length buf ≡ length buf₀)
+
+abbrev μ-loop : tie.MeasureT-loop
+μ-loop buf₀ at count lines lates next₀ i₀ buf next i = count - i
+
+loop-holds : tie.Need-loop-holds Inv-loop μ-loop
+unfolding tasksText
+loop-holds c = (search needs, none _ _, search needs, search needs)
+
+mul-line : tie.Need-mul-line Inv-loop μ-loop
+mul-line c = search needs
+
+array-copy-out-line : tie.Need-array-copy-out-line Inv-loop μ-loop
+array-copy-out-line c = search needs
+
+mul-late : tie.Need-mul-late Inv-loop μ-loop
+mul-late c = search needs
+
+array-copy-out-late : tie.Need-array-copy-out-late Inv-loop μ-loop
+array-copy-out-late c = search needs
+
+add-put-task : tie.Need-add-put-task Inv-loop μ-loop
+add-put-task c = search needs
+
+put-task-requires : tie.Need-put-task-requires Inv-loop μ-loop
+put-task-requires c κs = search needs
+
+add-i : tie.Need-add-i Inv-loop μ-loop
+add-i c = search needs
+
+loop-less : tie.Need-loop-less Inv-loop μ-loop
+loop-less c = search needs
+
+loop-again : tie.Need-loop-again Inv-loop μ-loop
+loop-again c =
+    let l = c .before .before .before .before .before .before .before .loop in
+    let a = c .before .before .before .before .before .before .before .before .before .args in
+    let p = c .before .before .put-task in
+    let z = getD (a .t4) (l .i) (pos 0) in
+    let f : SFits w64 z = search needs in (
+      search needs,
+      recast (ap (λ (x : ℤ). tasksText (a .t3) (a .t4) (l .i) ++ taskText (l .i + 1) (getD (a .t3) (l .i) noLine) x) (toZ-ofZ w64 z f) ∙ tasks-more (a .t3) (a .t4) (l .i)) (then (l .inv .1) (p .ensures .0)),
+      search needs,
+      p .kept .0 ∙ l .inv .3,
+    )
+
+same-length : tie.Need-same-length Inv-loop μ-loop
+same-length c = search needs
+
+returns : tie.Need-returns Inv-loop μ-loop
+returns c =
+    let l = c .before .loop in
+    let e : l .i ≡ _ = le-antisymm (l .inv .0) (c .loop-test .left) in
+    (recast (ap (tasksText _ _) e) (l .inv .1), search needs)
+
+pub put-tasks-spec : {M : Type 1} → statement M
+put-tasks-spec =
+    tie.close
+    (tie.spec
+    Inv-loop
+    μ-loop
+    loop-holds
+    mul-line
+    array-copy-out-line
+    mul-late
+    array-copy-out-late
+    add-put-task
+    put-task-requires
+    add-i
+    loop-less
+    loop-again
+    same-length
+    returns)
