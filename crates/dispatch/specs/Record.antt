@@ -20,10 +20,11 @@ recordOf pl = record { plan = pl; clock = ticks 0; states = replicate tasksLimit
 unfoldable pub freshOf : ℕ → List ℕ → Fresh
 freshOf m xs = record { refusal = planOf m xs .refusal; next = recordOf (planOf m xs .plan) }
 
--- task i's line and state
+-- task i's line
 abbrev pub lineAt : Record → ℕ → Line
 lineAt r i = getD (r .plan .lines) i noLine
 
+-- and its state
 abbrev pub stateAt : Record → ℕ → State
 stateAt r i = getD (r .states) i noState
 

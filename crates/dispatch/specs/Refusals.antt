@@ -24,9 +24,10 @@ taskNo r i t = cond (not (soundOf r)) 15 (cond (outside (r .plan .count) i) 7 (t
 unfoldable pub lookNo : Record → ℕ → ℕ → ℕ
 lookNo r k t = cond (not (soundOf r)) 15 (cond (outside (r .plan .cores) k) 13 (timeNo r t))
 
--- the first that applies
+-- the first that applies to a release: 15, 7, 12, 8, 9, 10
 unfoldable pub releaseNo : Record → ℕ → ℕ → ℕ
 releaseNo r i t = cond (eqb (taskNo r i t) 0) (releaseOwn (lineAt r (i - 1)) (stateAt r (i - 1)) t) (taskNo r i t)
 
+-- to a finish: 15, 7, 12, 8, 11
 unfoldable pub finishNo : Record → ℕ → ℕ → ℕ
 finishNo r i t = cond (eqb (taskNo r i t) 0) (finishOwn (stateAt r (i - 1))) (taskNo r i t)
