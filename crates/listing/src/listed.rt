@@ -16,7 +16,7 @@ pub struct Listed {
 }
 
 // A sound plan's listing. A first run on a buffer of one byte finds its length.
-fn list_plan(plan: Plan, buf: &mut [u8]) -> Listed
+pub fn list_plan(plan: Plan, buf: &mut [u8]) -> Listed
     requires { ⌜ planSound plan ≡ true ⌝ }
     ensures { λ r. ⌜ r ≡ planListed plan (length (now (buf .entry))) ⌝ }
     ensures { λ r. ⌜ now (buf .exit) ≡ planAfter plan (now (buf .entry)) ⌝ }
