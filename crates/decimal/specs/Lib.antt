@@ -1,5 +1,6 @@
 pub mod Limits
 pub mod Ascii
 pub mod Decimal
+pub mod Field
 pub mod Wrote
 pub mod Value

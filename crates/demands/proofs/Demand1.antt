@@ -9,7 +9,7 @@ use Rattle.dispatched.specs.Shape.{Good}
 use Rattle.dispatched.specs.Calls.{Call, timeOf, refusalOf, step, after}
 use Rattle.dispatched.proofs.Always.{always-good, refused-same, accepted-clock, clock-rises, plan-same}
 use Rattle.dispatched.proofs.Never.{never-15}
-use Rattle.demands.proofs.Started.{started}
+use Rattle.dispatched.proofs.Started.{started}
 
 -- a refused call hands back the very record it was given, whatever the record
 pub refused-changes-nothing : (r : Record) (c : Call) → (refusalOf r c ≡ 0 → ⊥) → step r c ≡ r

@@ -9,7 +9,7 @@ use Rattle.fair.specs.Runs.{coreOfRun}
 use Rattle.dispatch.specs.Record.{recordOf}
 use Rattle.dispatched.specs.Calls.{Call, coresOf, sentTo, inARow}
 use Rattle.dispatched.proofs.Demand3.{weightOf, sharesOf, shareOf, core-of-run, of-the-first, of-any-in-a-row}
-use Rattle.demands.proofs.Started.{started}
+use Rattle.dispatched.proofs.Started.{started}
 
 -- a list m, xs that is taken, one of its tasks i, and any calls cs: the runs are the answers of the accepted releases of task i
 module _ (m : ℕ) (xs : List ℕ) (ok : planOf m xs .refusal .no ≡ 0) (i : ℕ) (from : 0 < i) (to : i ≤ planOf m xs .plan .count) (cs : List Call) where

@@ -16,3 +16,4 @@ pub mod Plans
 pub mod Waiting
 pub mod Choice
 pub mod Example
+pub mod Started

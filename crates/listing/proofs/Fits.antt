@@ -30,7 +30,8 @@ use Rattle.dispatched.specs.Shape.{PlanShaped, Good}
 use Rattle.dispatched.proofs.Plans.{sound-kept}
 use Rattle.dispatched.proofs.Records.{held}
 use Rattle.listing.specs.Listed.{planListed, listedOf}
-use Rattle.listing.specs.Listing.{field, newline, shareText, sharesText, headText, rowText, lateText, taskText, tasksText, listingText}
+use Rattle.decimal.specs.Field.{field, lineEnd}
+use Rattle.listing.specs.Listing.{shareText, sharesText, headText, rowText, lateText, taskText, tasksText, listingText}
 
 -- a share of at most 1,000,000 on one of sixteen cores
 share-length : (p s : ℕ) → p ≤ coresLimit → s ≤ commonLimit → length (shareText p s) ≤ 11
@@ -57,8 +58,8 @@ row-length row h k =
 -- a bound from -1,000,000 to 1,000,000,000
 late-length : (z : ℤ) → leZ (negsuc 999999) z ≡ true → leZ z (pos 1000000000) ≡ true → length (lateText z) ≤ 17
 unfolding lateText signedOf
-late-length (pos n) h k = rw (length-append (decimalOf n) newline) (omega (arith, decimal-length 9 n (omega (arith, leb-true n 1000000000 k))))
-late-length (negsuc n) h k = rw (length-append (decimalOf (suc n)) newline) (omega (arith, decimal-length 6 (suc n) (omega (arith, leb-true n 999999 h))))
+late-length (pos n) h k = rw (length-append (decimalOf n) lineEnd) (omega (arith, decimal-length 9 n (omega (arith, leb-true n 1000000000 k))))
+late-length (negsuc n) h k = rw (length-append (decimalOf (suc n)) lineEnd) (omega (arith, decimal-length 6 (suc n) (omega (arith, leb-true n 999999 h))))
 
 -- a task's number, cost, period and weight
 head-length : (i : ℕ) (ln : Line) → i ≤ tasksLimit → ln .cost .0 ≤ periodLimit → ln .period .0 ≤ periodLimit → ln .weight .0 ≤ commonLimit
@@ -110,7 +111,7 @@ module _ (pl : Plan) (long : PlanShaped pl) (s : planSound pl ≡ true) where
       let a = field "cores " (pl .cores) in
       let b = field " common " (pl .common) in
       let t = tasksText (pl .lines) (latesOf pl) (pl .count) in
-      rw (length-append (a ++ b ++ newline) t, length-append (a ++ b) newline, length-append a b)
+      rw (length-append (a ++ b ++ lineEnd) t, length-append (a ++ b) lineEnd, length-append a b)
       (omega (
         arith,
         decimal-length 1 (pl .cores) (omega (arith, k .cores-few)),

@@ -14,7 +14,8 @@ use Rattle.lists.specs.Lists.{parts}
 use Rattle.decimal.specs.Ascii.{ascii}
 use Rattle.planning.specs.declared.Line.{Line}
 use Rattle.planning.specs.Plan.{noLine}
-use Rattle.listing.specs.Listing.{field, shareText, sharesText, rowText, taskText, tasksText}
+use Rattle.decimal.specs.Field.{field}
+use Rattle.listing.specs.Listing.{shareText, sharesText, rowText, taskText, tasksText}
 
 -- no share, no text
 pub share-none : (p s : ℕ) → s ≡ 0 → [] ≡ shareText p s

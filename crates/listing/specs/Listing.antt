@@ -1,26 +1,18 @@
 -- The listing of a plan, document 01, "Listing and text". Tasks and cores are numbered from 1.
 use Prim.Native.Nat.{ℕ, zero, suc}
-use Prim.Native.String.{String}
-use mathlib.Core.Bool.{Bool, cond}
+use mathlib.Core.Bool.{cond}
 use mathlib.Core.List.{List, [], _∷_, _++_}
 use lib.Dec.{eqb}
 use lib.IntN.{ℤ, pos}
 use lib.ListN.{getD}
 use Rattle.decimal.specs.Ascii.{ascii}
-use Rattle.decimal.specs.Decimal.{decimalOf, signedOf}
+use Rattle.decimal.specs.Decimal.{signedOf}
+use Rattle.decimal.specs.Field.{field, lineEnd}
 use Rattle.assignment.specs.Movers.{moves}
 use Rattle.planning.specs.declared.Line.{Line}
 use Rattle.planning.specs.declared.Plan.{Plan}
 use Rattle.planning.specs.Plan.{noLine, rowOf}
 use Rattle.lateness.specs.Lateness.{latesOf}
-
--- the end of a line
-abbrev pub newline : List ℕ
-newline = 10 ∷ []
-
--- a label and a number
-abbrev pub field : String → ℕ → List ℕ
-field label n = ascii label ++ decimalOf n
 
 -- a core's share, ` 1:5`; only positive ones are listed
 abbrev pub shareText : ℕ → ℕ → List ℕ
@@ -41,7 +33,7 @@ rowText row = cond (moves row) (ascii " moves") (ascii " fixed") ++ sharesText 1
 
 -- a task's bound and the end of its line: ` late 6`
 unfoldable pub lateText : ℤ → List ℕ
-lateText late = ascii " late " ++ signedOf late ++ newline
+lateText late = ascii " late " ++ signedOf late ++ lineEnd
 
 -- a task's line: `task 1 cost 5 period 6 weight 5 fixed 1:5 late 6`
 unfoldable pub taskText : ℕ → Line → ℤ → List ℕ
@@ -54,4 +46,4 @@ tasksText ls lates (suc n) = tasksText ls lates n ++ taskText (suc n) (getD ls n
 
 -- the whole listing: `cores 4 common 6`, then a line for each task
 unfoldable pub listingText : Plan → List ℕ
-listingText pl = field "cores " (pl .cores) ++ field " common " (pl .common) ++ newline ++ tasksText (pl .lines) (latesOf pl) (pl .count)
+listingText pl = field "cores " (pl .cores) ++ field " common " (pl .common) ++ lineEnd ++ tasksText (pl .lines) (latesOf pl) (pl .count)

@@ -1,18 +1,14 @@
 -- Texts and what they say.
 use Prim.Native.Nat.{ℕ}
-use Prim.Native.Char.{code}
-use Prim.Native.String.{String, [] as []ᵗ, _∷_ as _∷ᵗ_}
+use Prim.Native.String.{String}
 use mathlib.Core.Path.{_≡_, refl}
 use mathlib.Core.List.{List, [], _∷_}
 use lib.ListN.{replicate}
-use Rattle.reading.specs.Number.{digitOf, digitsOf, firstOf, numberAt}
-use Rattle.reading.specs.Line.{followedBy, fieldAt, coresLine, periodAfter, costAfter, taskLine}
-use Rattle.reading.specs.Text.{Said, says, unreadable, orLater, unreadableFrom, thenLater, numbersFrom, tableFrom, afterCores, textOf}
-
--- the bytes of a text
-abbrev ascii : String → List ℕ
-ascii []ᵗ = []
-ascii (c ∷ᵗ s) = code c ∷ ascii s
+use Rattle.decimal.specs.Ascii.{ascii}
+use Rattle.fields.specs.Number.{digitOf, digitsOf, firstOf, numberAt}
+use Rattle.fields.specs.Line.{followedBy, fieldAt, secondAfter, firstAfter, pairAt}
+use Rattle.fields.specs.Lines.{pairEnd, unreadableFrom}
+use Rattle.reading.specs.Text.{Said, says, unreadable, coresLine, taskLine, thenLater, numbersFrom, tableFrom, afterCores, textOf}
 
 -- what a text says
 abbrev Says : String → Said → Type 0
@@ -20,12 +16,12 @@ Says text w = textOf (ascii text) ≡ w
 
 -- E1
 pub e1 : Says "4\n5 6\n4 6\n2 3\n2 3\n2 3\n1 2\n" (says 4 (5 ∷ 6 ∷ 4 ∷ 6 ∷ 2 ∷ 3 ∷ 2 ∷ 3 ∷ 2 ∷ 3 ∷ 1 ∷ 2 ∷ []))
-unfolding digitOf digitsOf firstOf numberAt followedBy fieldAt coresLine periodAfter costAfter taskLine orLater unreadableFrom thenLater numbersFrom tableFrom afterCores textOf
+unfolding digitOf digitsOf firstOf numberAt followedBy fieldAt secondAfter firstAfter pairAt pairEnd unreadableFrom thenLater numbersFrom tableFrom afterCores textOf
 e1 = refl
 
 -- a core count alone, 0 as a number, and 2^32 - 1, the largest
 pub readable : Says "0\n" (says 0 []) × Says "1\n0 0\n" (says 1 (0 ∷ 0 ∷ [])) × Says "1\n4294967295 1\n" (says 1 (4294967295 ∷ 1 ∷ []))
-unfolding digitOf digitsOf firstOf numberAt followedBy fieldAt coresLine periodAfter costAfter taskLine orLater unreadableFrom thenLater numbersFrom tableFrom afterCores textOf
+unfolding digitOf digitsOf firstOf numberAt followedBy fieldAt secondAfter firstAfter pairAt pairEnd unreadableFrom thenLater numbersFrom tableFrom afterCores textOf
 readable = (refl, refl, refl)
 
 -- a leading zero, 2^32, two blanks, an empty line, and a last line without a newline
@@ -35,10 +31,10 @@ pub unreadables :
     × Says "1\n5  6\n" (unreadable 2)
     × Says "1\n\n5 6\n" (unreadable 2)
     × Says "1\n5 6\n7 8" (unreadable 3)
-unfolding digitOf digitsOf firstOf numberAt followedBy fieldAt coresLine periodAfter costAfter taskLine orLater unreadableFrom thenLater numbersFrom tableFrom afterCores textOf
+unfolding digitOf digitsOf firstOf numberAt followedBy fieldAt secondAfter firstAfter pairAt pairEnd unreadableFrom thenLater numbersFrom tableFrom afterCores textOf
 unreadables = (refl, refl, refl, refl, refl)
 
 -- an empty text, and one of 4,097 bytes, whose first line is unreadable too
 pub line-zero : Says "" (unreadable 0) × (textOf (replicate 4097 32) ≡ unreadable 0)
-unfolding digitOf digitsOf firstOf numberAt followedBy fieldAt coresLine periodAfter costAfter taskLine orLater unreadableFrom thenLater numbersFrom tableFrom afterCores textOf
+unfolding digitOf digitsOf firstOf numberAt followedBy fieldAt secondAfter firstAfter pairAt pairEnd unreadableFrom thenLater numbersFrom tableFrom afterCores textOf
 line-zero = (refl, refl)

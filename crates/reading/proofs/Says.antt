@@ -5,10 +5,9 @@ use mathlib.Core.List.{List}
 use borrow.Author.Tests.{lt-ltb, le-ltb, ne-eqb}
 use lib.ListN.{length}
 use lib.Seq.{sets}
-use Rattle.reading.specs.Line.{coresLine}
-use Rattle.reading.specs.Text.{Said, says, unreadable, textLimit, unreadableFrom, numbersFrom, tableFrom, afterCores, textOf, numbersOf, answerOf}
-use Rattle.reading.specs.declared.number.Number.{Number}
-use Rattle.reading.specs.declared.number.Number.the-variants.{Value, NoNumber}
+use Rattle.reading.specs.Text.{Said, says, unreadable, textLimit, coresLine, badTask, numbersFrom, tableFrom, afterCores, textOf, numbersOf, answerOf}
+use Rattle.fields.specs.declared.number.Number.{Number}
+use Rattle.fields.specs.declared.number.Number.the-variants.{Value, NoNumber}
 use Rattle.reading.specs.declared.Reading.{Reading}
 use Rattle.reading.specs.declared.Reading.the-variants.{Read, Unreadable}
 
@@ -32,12 +31,12 @@ gives-same before e g = rw e g
 
 module _ (s : List ℕ) (m at : ℕ) where
   -- a table with no unreadable line
-  pub table-says : {line : ℕ} → line ≡ unreadableFrom (length s) s 2 at → line ≡ 0 → tableFrom s m at ≡ says m (numbersFrom (length s) s at)
+  pub table-says : {line : ℕ} → line ≡ badTask s at → line ≡ 0 → tableFrom s m at ≡ says m (numbersFrom (length s) s at)
   unfolding tableFrom
   table-says e z = rw (← e, z)
 
   -- a table with one
-  pub table-line : {line : ℕ} → line ≡ unreadableFrom (length s) s 2 at → (line ≡ 0 → ⊥) → tableFrom s m at ≡ unreadable line
+  pub table-line : {line : ℕ} → line ≡ badTask s at → (line ≡ 0 → ⊥) → tableFrom s m at ≡ unreadable line
   unfolding tableFrom
   table-line {line} e z = rw (← e, ne-eqb line 0 z)
 

@@ -6,10 +6,9 @@ use native.Mathlib.Omega.{arith}
 use native.Mathlib.Nat.{sub-zero}
 use lib.ListN.{length, set, length-set}
 use lib.Seq.{sets}
-use Rattle.reading.specs.Line.{taskLine}
-use Rattle.reading.specs.Text.{numbersFrom}
-use Rattle.reading.proofs.Fields.{task-after}
-use Rattle.reading.specs.declared.line.TaskLine.the-variants.{Task, NoTask}
+use Rattle.reading.specs.Text.{taskLine, numbersFrom}
+use Rattle.reading.proofs.Tables.{task-kept}
+use Rattle.fields.specs.declared.line.Pair.the-variants.{Two, NoPair}
 use Rattle.reading.proofs.Tables.{numbers-none, numbers-later}
 
 -- two stores, and then the later numbers
@@ -34,13 +33,13 @@ start s from l = record { ahead = omega arith; within = omega arith; long = refl
 
 module _ (s : List ℕ) (from : ℕ) (before : List ℕ) {now : List ℕ} (i at : ℕ) (h : Stored s from before now i at) where
   -- the two numbers of one more task
-  pub more : {l₁ l₂ : List ℕ} (c t : ℕ) {next : ℕ} → at < length s → taskLine s at ≡ Task c t next → l₁ ≡ set now (2 * i) c → l₂ ≡ set l₁ (2 * i + 1) t
+  pub more : {l₁ l₂ : List ℕ} (c t : ℕ) {next : ℕ} → at < length s → taskLine s at ≡ Two c t next → l₁ ≡ set now (2 * i) c → l₂ ≡ set l₁ (2 * i + 1) t
       → Stored s from before l₂ (i + 1) next
   more {l₁} {l₂} c t {next} k p a b =
       let e : length s - i ≡ suc (length s - (i + 1)) = omega (arith, h .ahead) in
       let q = numbers-later s at _ _ e k p in
       record {
-        ahead = omega (arith, h .ahead, task-after s at c t next p);
+        ahead = omega (arith, h .ahead, task-kept s at c t next p .2);
         within = omega (arith, h .ahead);
         long = ap length (b ∙ ap (λ (l : List ℕ). set l (2 * i + 1) t) a) ∙ simp length-set (h .long);
         count = omega (arith, h .count, ap length q);
@@ -48,7 +47,7 @@ module _ (s : List ℕ) (from : ℕ) (before : List ℕ) {now : List ℕ} (i at 
       }
 
   -- an unreadable line has no number
-  pub none-here : at < length s → taskLine s at ≡ NoTask → numbersFrom (length s - i) s at ≡ []
+  pub none-here : at < length s → taskLine s at ≡ NoPair → numbersFrom (length s - i) s at ≡ []
   none-here k p =
       let e : length s - i ≡ suc (length s - (i + 1)) = omega (arith, h .ahead) in
       numbers-none s at _ _ e k p

@@ -1,3 +1,1 @@
-pub mod Number
-pub mod Line
 pub mod Text

@@ -1,14 +1,16 @@
 -- What a text says, document 01: one line with M, then a line `C T` for each task, at most 4,096 bytes.
-use Prim.Native.Nat.{ℕ, zero, suc, _+_}
+use Prim.Native.Nat.{ℕ, zero, suc}
 use mathlib.Core.Bool.{cond}
 use mathlib.Core.List.{List, [], _∷_}
 use lib.Dec.{ltb, eqb}
 use lib.ListN.{length}
-use Rattle.reading.specs.Line.{coresLine, taskLine}
-use Rattle.reading.specs.declared.number.Number.{Number}
-use Rattle.reading.specs.declared.number.Number.the-variants.{Value, NoNumber}
-use Rattle.reading.specs.declared.line.TaskLine.{TaskLine}
-use Rattle.reading.specs.declared.line.TaskLine.the-variants.{Task, NoTask}
+use Rattle.decimal.specs.Ascii.{newline}
+use Rattle.fields.specs.Line.{fieldAt, pairAt}
+use Rattle.fields.specs.Lines.{pairEnd, unreadableFrom}
+use Rattle.fields.specs.declared.number.Number.{Number}
+use Rattle.fields.specs.declared.number.Number.the-variants.{Value, NoNumber}
+use Rattle.fields.specs.declared.line.Pair.{Pair}
+use Rattle.fields.specs.declared.line.Pair.the-variants.{Two, NoPair}
 use Rattle.reading.specs.declared.Reading.{Reading}
 use Rattle.reading.specs.declared.Reading.the-variants.{Read, Unreadable}
 
@@ -21,32 +23,39 @@ pub data Said : Type 0 where
 abbrev pub textLimit : ℕ
 textLimit = 4096
 
--- this line is unreadable, or else the lines from the next place on decide
-unfoldable pub orLater : (ℕ → ℕ) → ℕ → TaskLine → ℕ
-orLater later line (Task c t next) = later next
-orLater later line NoTask = line
+-- 2^32, which each number is below
+abbrev pub numberBound : ℕ
+numberBound = 4294967296
 
--- the first unreadable one of the lines from a place on, where this line starts, and 0 if there is none; f is no less than their number
-unfoldable pub unreadableFrom : ℕ → List ℕ → ℕ → ℕ → ℕ
-unreadableFrom zero s line at = 0
-unreadableFrom (suc f) s line at = cond (ltb at (length s)) (orLater (λ next. unreadableFrom f s (line + 1) next) line (taskLine s at)) 0
+-- the line `M`, the first of the text
+abbrev pub coresLine : List ℕ → Number
+coresLine s = fieldAt numberBound s newline 0
+
+-- the line `C T` at a place
+abbrev pub taskLine : List ℕ → ℕ → Pair
+taskLine s at = pairAt numberBound s at
+
+-- the place after it, and 0 where it cannot be read
+abbrev pub taskEnd : List ℕ → ℕ → ℕ
+taskEnd s at = pairEnd (taskLine s at)
+
+-- the first unreadable line of a table that starts at a place with the text's second line, and 0 if there is none
+abbrev pub badTask : List ℕ → ℕ → ℕ
+badTask s at = unreadableFrom (taskEnd s) (length s) (length s) 2 at
 
 -- this line's cost, then its period, then the later lines' numbers
-unfoldable pub thenLater : (ℕ → List ℕ) → TaskLine → List ℕ
-thenLater later (Task c t next) = c ∷ t ∷ later next
-thenLater later NoTask = []
+unfoldable pub thenLater : (ℕ → List ℕ) → Pair → List ℕ
+thenLater later (Two c t next) = c ∷ t ∷ later next
+thenLater later NoPair = []
 
--- the table's numbers from a place on, cost then period for each task
+-- the table's numbers from a place on, cost then period for each task; f is no less than the lines' number
 unfoldable pub numbersFrom : ℕ → List ℕ → ℕ → List ℕ
 numbersFrom zero s at = []
 numbersFrom (suc f) s at = cond (ltb at (length s)) (thenLater (λ next. numbersFrom f s next) (taskLine s at)) []
 
--- a table of m cores, if each of its lines from a place on, the second of the text, can be read
+-- a table of m cores, if each of its lines from a place on can be read
 unfoldable pub tableFrom : List ℕ → ℕ → ℕ → Said
-tableFrom s m at =
-    cond (eqb (unreadableFrom (length s) s 2 at) 0)
-    (says m (numbersFrom (length s) s at))
-    (unreadable (unreadableFrom (length s) s 2 at))
+tableFrom s m at = cond (eqb (badTask s at) 0) (says m (numbersFrom (length s) s at)) (unreadable (badTask s at))
 
 -- the core count, then the table; the core count's line is the first
 unfoldable pub afterCores : List ℕ → Number → Said

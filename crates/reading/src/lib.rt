@@ -1,20 +1,19 @@
 // Reading the program's text: a core count and a table, or the line that cannot be read.
-use crate::line::NEWLINE;
-use crate::line::TaskLine;
-use crate::line::read_field;
-use crate::line::read_task;
-use crate::number::Number;
+use fields::line::NEWLINE;
+use fields::line::Pair;
+use fields::line::read_field;
+use fields::line::read_pair;
+use fields::number::Number;
 ghost use mathlib.Core.Path.{_≡_};
 ghost use Prim.Native.Nat.{_≤_};
 ghost use lib.ListN.{length, set};
 ghost use lib.Seq.{sets};
-ghost use Rattle.reading.specs.Text.{textOf, tableFrom, unreadableFrom, numbersFrom, numbersOf, answerOf};
-
-mod line;
-mod number;
+ghost use Rattle.reading.specs.Text.{textOf, tableFrom, badTask, numbersFrom, numbersOf, answerOf};
 
 // Bytes of a text, at most.
 pub const BYTES: usize = 4_096;
+// 2^32, which each number is below.
+const BOUND: u64 = 4_294_967_296;
 
 // The core count and how many numbers the table has, or the line that is named.
 pub enum Reading {
@@ -24,16 +23,16 @@ pub enum Reading {
 
 // The first unreadable line of a table that starts with the text's second line, 0 if there is none.
 fn first_unreadable(text: &[u8], from: usize) -> usize
-    ensures { λ r. ⌜ r ≡ unreadableFrom (length (now (text .entry))) (now (text .entry)) 2 from ⌝ }
+    ensures { λ r. ⌜ r ≡ badTask (now (text .entry)) from ⌝ }
 {
     let mut at = from;
     let mut line = 2;
     while at < text.len() {
-        match read_task(text, at) {
-            TaskLine::NoTask => {
+        match read_pair(text, at, BOUND) {
+            Pair::NoPair => {
                 return line;
             }
-            TaskLine::Task(c, t, next) => {
+            Pair::Two(c, t, next) => {
                 at = next;
                 line += 1;
             }
@@ -59,13 +58,15 @@ fn store_tasks(text: &[u8], from: usize, table: &mut [u32]) -> usize
     let mut at = from;
     let mut i = 0;
     while at < text.len() {
-        match read_task(text, at) {
-            TaskLine::NoTask => {
+        match read_pair(text, at, BOUND) {
+            Pair::NoPair => {
                 return 2 * i;
             }
-            TaskLine::Task(c, t, next) => {
-                store(table, 2 * i, c);
-                store(table, 2 * i + 1, t);
+            Pair::Two(c, t, next) => {
+                let cost = c as u32;
+                let period = t as u32;
+                store(table, 2 * i, cost);
+                store(table, 2 * i + 1, period);
                 at = next;
                 i += 1;
             }
@@ -103,8 +104,11 @@ pub fn read_text(text: &[u8], table: &mut [u32]) -> Reading
     if n == 0 {
         return Reading::Unreadable(0);
     }
-    match read_field(text, NEWLINE, 0) {
+    match read_field(text, 0, BOUND, NEWLINE) {
         Number::NoNumber => Reading::Unreadable(1),
-        Number::Value(m, a) => read_table(text, m, a, table),
+        Number::Value(m, a) => {
+            let cores = m as u32;
+            read_table(text, cores, a, table)
+        }
     }
 }

@@ -1,6 +1,8 @@
 use mathlib.Core.Path.{sym, _∙_}
-use Rattle.reading.specs.Line.{coresLine}
+use Rattle.reading.specs.Text.{coresLine}
 use Rattle.reading.proofs.Says.{gives-line, gives-same, text-long, text-empty, text-first, text-table}
+use native.Mathlib.Omega.{arith}
+use Rattle.fields.proofs.Fields.{field-kept}
 use borrow.Author.Needs.{needs}
 use Rattle.reading.proofs.read_text.Statement.{statement}
 use Rattle.reading.proofs.read_text.Tie as tie
@@ -20,11 +22,15 @@ enum-told c = search needs
 enum-known-m : tie.Need-enum-known-m
 enum-known-m c = search needs
 
+cast-cores : tie.Need-cast-cores
+cast-cores c =
+    let k = c .before in
+    omega (arith, field-kept _ _ _ _ _ _ (search needs) (sym (k .before .before .read-field .ensures) ∙ k .m .given .1) .0)
+
 read-table-requires : tie.Need-read-table-requires
 read-table-requires c κs = search needs
 
 returns-3 : tie.Need-returns-3
-unfolding coresLine
 returns-3 c =
     let n = c .before .before in
     gives-line 1 _ (text-first _ (n .before .before .if1 .left) (n .before .if2 .left) (sym (n .read-field .ensures) ∙ c .enum-told .given .1))
@@ -33,7 +39,6 @@ same-length : tie.Need-same-length
 same-length c = search needs
 
 returns-4 : tie.Need-returns-4
-unfolding coresLine
 returns-4 c =
     let d = c .before .before in
     let k = d .before .before .before in
@@ -49,6 +54,7 @@ read-text-spec =
     read-field-requires
     enum-told
     enum-known-m
+    cast-cores
     read-table-requires
     returns-3
     same-length

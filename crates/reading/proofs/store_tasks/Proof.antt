@@ -1,8 +1,9 @@
+use native.Mathlib.Omega.{arith}
 use borrow.Author.Needs.{needs}
 use Prim.Native.Nat.{_-_}
 use mathlib.Core.Path.{sym, _∙_}
 use lib.ListN.{length}
-use Rattle.reading.proofs.Tables.{numbers-done}
+use Rattle.reading.proofs.Tables.{task-kept, numbers-done}
 use Rattle.reading.proofs.Stored.{Stored, start, more, none-here, whole}
 use Rattle.reading.proofs.store_tasks.Statement.{statement}
 use Rattle.reading.proofs.store_tasks.Tie as tie
@@ -16,8 +17,8 @@ abbrev μ-loop : tie.MeasureT-loop
 loop-holds : tie.Need-loop-holds Inv-loop μ-loop
 loop-holds c = start _ _ _
 
-read-task-requires : tie.Need-read-task-requires Inv-loop μ-loop
-read-task-requires c κs = search needs
+read-pair-requires : tie.Need-read-pair-requires Inv-loop μ-loop
+read-pair-requires c κs = search needs
 
 enum-told : tie.Need-enum-told Inv-loop μ-loop
 enum-told c = search needs
@@ -32,10 +33,20 @@ returns : tie.Need-returns Inv-loop μ-loop
 returns c =
     let n = c .before .before .before in
     let l = n .before .loop in
-    whole _ _ _ _ _ (l .inv) (none-here _ _ _ _ _ (l .inv) (n .loop-test .taken) (sym (c .before .before .read-task .ensures) ∙ c .enum-told .given .1))
+    whole _ _ _ _ _ (l .inv) (none-here _ _ _ _ _ (l .inv) (n .loop-test .taken) (sym (c .before .before .read-pair .ensures) ∙ c .enum-told .given .1))
 
 enum-known-c : tie.Need-enum-known-c Inv-loop μ-loop
 enum-known-c c = search needs
+
+cast-cost : tie.Need-cast-cost Inv-loop μ-loop
+cast-cost c =
+    let k = c .before in
+    omega (arith, task-kept _ _ _ _ _ (sym (k .before .before .read-pair .ensures) ∙ k .c .given .1) .0)
+
+cast-period : tie.Need-cast-period Inv-loop μ-loop
+cast-period c =
+    let k = c .before in
+    omega (arith, task-kept _ _ _ _ _ (sym (k .before .before .read-pair .ensures) ∙ k .c .given .1) .1)
 
 mul-store : tie.Need-mul-store Inv-loop μ-loop
 mul-store c = search needs
@@ -65,7 +76,7 @@ loop-again c =
     let l = n .before .loop in
     let s1 = c .before .before .before .before .before .before .store in
     let s2 = c .before .before .store2 in
-    more _ _ _ _ _ (l .inv) (k .c .given .0 .0) (k .c .given .0 .1 .0) (n .loop-test .taken) (sym (k .before .before .read-task .ensures) ∙ k .c .given .1) (s1 .ensures) (s2 .ensures)
+    more _ _ _ _ _ (l .inv) (k .c .given .0 .0) (k .c .given .0 .1 .0) (n .loop-test .taken) (sym (k .before .before .read-pair .ensures) ∙ k .c .given .1) (s1 .ensures) (s2 .ensures)
 
 mul-result-2 : tie.Need-mul-result-2 Inv-loop μ-loop
 mul-result-2 c = search needs
@@ -83,12 +94,14 @@ store-tasks-spec =
     Inv-loop
     μ-loop
     loop-holds
-    read-task-requires
+    read-pair-requires
     enum-told
     mul-result
     same-length
     returns
     enum-known-c
+    cast-cost
+    cast-period
     mul-store
     store-requires
     mul-store-2

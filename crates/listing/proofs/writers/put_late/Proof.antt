@@ -6,7 +6,8 @@ use mir.ValLaws.{toZ-ofZ}
 use Rattle.decimal.specs.Ascii.{ascii}
 use Rattle.decimal.specs.Decimal.{signedOf}
 use Rattle.decimal.proofs.Wrote.{then, recast}
-use Rattle.listing.specs.Listing.{lateText, newline}
+use Rattle.decimal.specs.Field.{lineEnd}
+use Rattle.listing.specs.Listing.{lateText}
 use borrow.Author.Needs.{needs}
 use Rattle.listing.proofs.writers.put_late.Statement.{statement}
 use Rattle.listing.proofs.writers.put_late.Tie as tie
@@ -33,7 +34,7 @@ returns c =
     let p2 = p3 .before .before .before .before in
     let p1 = p2 .before .before .before .before in
     let s = p1 .before .before .before .before in (
-      recast (ap (λ z. ascii " late " ++ signedOf z ++ newline) (toZ-ofZ w64 (s .args .late) (s .fits .late))) (then (then (p1 .put-text .ensures) (p2 .put-signed .ensures .0)) (p3 .put-byte .ensures)),
+      recast (ap (λ z. ascii " late " ++ signedOf z ++ lineEnd) (toZ-ofZ w64 (s .args .late) (s .fits .late))) (then (then (p1 .put-text .ensures) (p2 .put-signed .ensures .0)) (p3 .put-byte .ensures)),
       search needs,
     )
 

@@ -2,7 +2,8 @@
 use mathlib.Core.Path.{ap}
 use mathlib.Core.List.{_++_}
 use Rattle.decimal.proofs.Wrote.{then, recast}
-use Rattle.listing.specs.Listing.{field, newline, tasksText, listingText}
+use Rattle.decimal.specs.Field.{field, lineEnd}
+use Rattle.listing.specs.Listing.{tasksText, listingText}
 use borrow.Author.Needs.{needs}
 use Rattle.listing.proofs.writers.put_plan.Statement.{statement}
 use Rattle.listing.proofs.writers.put_plan.Tie as tie
@@ -40,7 +41,7 @@ returns c =
     let p1 = p2 .before .before .before .before .before .before in
     let s = p1 .before .before .before .before .before in
     let pl = s .args .plan in (
-      recast (ap (λ lates. field "cores " (pl .cores) ++ field " common " (pl .common) ++ newline ++ tasksText (pl .lines) lates (pl .count)) (s .pre .1))
+      recast (ap (λ lates. field "cores " (pl .cores) ++ field " common " (pl .common) ++ lineEnd ++ tasksText (pl .lines) lates (pl .count)) (s .pre .1))
           (then (then (then (p1 .put-field .ensures .0) (p2 .put-field2 .ensures .0)) (p3 .put-byte .ensures)) (p4 .put-tasks .ensures .0)),
       search needs,
     )

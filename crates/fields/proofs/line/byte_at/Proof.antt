@@ -1,8 +1,8 @@
 use mathlib.Core.Path.{sym}
 use lib.ListN.{List·getD-eq-default}
 use borrow.Author.Needs.{needs}
-use Rattle.reading.proofs.line.byte_at.Statement.{statement}
-use Rattle.reading.proofs.line.byte_at.Tie as tie
+use Rattle.fields.proofs.line.byte_at.Statement.{statement}
+use Rattle.fields.proofs.line.byte_at.Tie as tie
 
 shared-slice-read-result : tie.Need-shared-slice-read-result
 shared-slice-read-result c = search needs

@@ -1,8 +1,8 @@
-use Rattle.reading.specs.Number.{digitOf}
+use Rattle.fields.specs.Number.{digitOf}
 use borrow.Author.Tests.{lt-leb, le-leb}
 use borrow.Author.Needs.{needs}
-use Rattle.reading.proofs.number.digit.Statement.{statement}
-use Rattle.reading.proofs.number.digit.Tie as tie
+use Rattle.fields.proofs.number.digit.Statement.{statement}
+use Rattle.fields.proofs.number.digit.Tie as tie
 
 returns : tie.Need-returns
 unfolding digitOf

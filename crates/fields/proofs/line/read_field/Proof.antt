@@ -1,9 +1,9 @@
 use mathlib.Core.Path.{sym, _∙_}
 use native.Mathlib.Omega.{arith}
-use Rattle.reading.proofs.Fields.{inside, field-none, field-is, field-other}
+use Rattle.fields.proofs.Fields.{inside, field-none, field-is, field-other}
 use borrow.Author.Needs.{needs}
-use Rattle.reading.proofs.line.read_field.Statement.{statement}
-use Rattle.reading.proofs.line.read_field.Tie as tie
+use Rattle.fields.proofs.line.read_field.Statement.{statement}
+use Rattle.fields.proofs.line.read_field.Tie as tie
 
 read-number-requires : tie.Need-read-number-requires
 read-number-requires c κs = search needs
@@ -17,24 +17,24 @@ enum-known-v c = search needs
 byte-at-requires : tie.Need-byte-at-requires
 byte-at-requires c κs = search needs
 
-add-t11 : tie.Need-add-t11
-add-t11 c =
+add-next : tie.Need-add-next
+add-next c =
     let k = c .before .before .before in
     let a = k .before .before .before .before in
-    omega (arith, inside (a .args .text .now) (k .v .given .0 .1 .0) (a .args .end) (a .pre) (sym (c .before .byte-at .ensures) ∙ c .if1 .taken))
+    omega (arith, inside (a .args .text .now) (k .v .given .0 .1 .0) (a .args .end) (a .pre .1) (sym (c .before .byte-at .ensures) ∙ c .if1 .taken))
 
 returns : tie.Need-returns
-returns c = sym (field-none _ _ _ (sym (c .before .before .read-number .ensures) ∙ c .enum-told .given .1))
+returns c = sym (field-none _ _ _ _ (sym (c .before .before .read-number .ensures) ∙ c .enum-told .given .1))
 
 returns-2 : tie.Need-returns-2
 returns-2 c =
     let k = c .before .before .before in
-    sym (field-is _ _ _ (sym (k .before .before .read-number .ensures) ∙ k .v .given .1) (sym (c .before .byte-at .ensures) ∙ c .if1 .taken))
+    sym (field-is _ _ _ _ (sym (k .before .before .read-number .ensures) ∙ k .v .given .1) (sym (c .before .byte-at .ensures) ∙ c .if1 .taken))
 
 returns-3 : tie.Need-returns-3
 returns-3 c =
     let k = c .before .before .before in
-    sym (field-other _ _ _ (sym (k .before .before .read-number .ensures) ∙ k .v .given .1) (λ e. c .if1 .left (c .before .byte-at .ensures ∙ e)))
+    sym (field-other _ _ _ _ (sym (k .before .before .read-number .ensures) ∙ k .v .given .1) (λ e. c .if1 .left (c .before .byte-at .ensures ∙ e)))
 
 pub read-field-spec : {M : Type 1} → statement M
 read-field-spec =
@@ -44,7 +44,7 @@ read-field-spec =
     enum-told
     enum-known-v
     byte-at-requires
-    add-t11
+    add-next
     returns
     returns-2
     returns-3)

@@ -3,17 +3,17 @@ use borrow.Author.Needs.{needs}
 use Prim.Native.Nat.{_≤_, _<_, _-_}
 use mathlib.Core.Path.{_≡_, refl, sym, _∙_}
 use lib.ListN.{length, drop}
-use Rattle.reading.specs.Number.{numberBound, digitsOf}
-use Rattle.reading.proofs.Digits.{digits-end, digits-large, digits-more, digits-done}
-use Rattle.reading.proofs.number.digits.Statement.{statement}
-use Rattle.reading.proofs.number.digits.Tie as tie
+use Rattle.fields.specs.Number.{digitsOf}
+use Rattle.fields.proofs.Digits.{digits-end, digits-large, digits-more, digits-done}
+use Rattle.fields.proofs.number.digits.Statement.{statement}
+use Rattle.fields.proofs.number.digits.Tie as tie
 
 abbrev Inv-loop : tie.InvT-loop
-Inv-loop text from first at₀ v₀ at v =
-    (at ≤ length text) × (v < numberBound) × (digitsOf (drop from text) first from ≡ digitsOf (drop at text) v at)
+Inv-loop text from first bound at₀ v₀ at v =
+    (at ≤ length text) × (v < bound) × (digitsOf bound (drop from text) first from ≡ digitsOf bound (drop at text) v at)
 
 abbrev μ-loop : tie.MeasureT-loop
-μ-loop text from first at₀ v₀ at v = length text - at
+μ-loop text from first bound at₀ v₀ at v = length text - at
 
 loop-holds : tie.Need-loop-holds Inv-loop μ-loop
 loop-holds c = (search needs, search needs, refl)
@@ -24,16 +24,10 @@ shared-slice-read-digit c = search needs
 digit-requires : tie.Need-digit-requires Inv-loop μ-loop
 digit-requires c κs = search needs
 
-cast-d : tie.Need-cast-d Inv-loop μ-loop
-cast-d c = search needs
-
-cast-t13 : tie.Need-cast-t13 Inv-loop μ-loop
-cast-t13 c = search needs
-
 returns : tie.Need-returns Inv-loop μ-loop
 returns c =
     let l = c .before .before .before .before .loop in
-    sym (l .inv .2 ∙ digits-end _ _ _ _ (c .before .before .before .loop-test .taken) (c .before .digit .ensures .0) (c .if1 .taken))
+    sym (l .inv .2 ∙ digits-end _ _ _ _ _ (c .before .before .before .loop-test .taken) (c .before .digit .ensures .0) (c .if1 .taken))
 
 mul-w : tie.Need-mul-w Inv-loop μ-loop
 mul-w c = search needs
@@ -44,7 +38,7 @@ add-w c = search needs
 returns-2 : tie.Need-returns-2 Inv-loop μ-loop
 returns-2 c =
     let l = c .before .before .before .before .before .loop in
-    sym (l .inv .2 ∙ digits-large _ _ _ _ (c .before .before .before .before .loop-test .taken) (c .before .before .digit .ensures .0) (c .before .if1 .left) (omega arith))
+    sym (l .inv .2 ∙ digits-large _ _ _ _ _ (c .before .before .before .before .loop-test .taken) (c .before .before .digit .ensures .0) (c .before .if1 .left) (omega arith))
 
 add-at : tie.Need-add-at Inv-loop μ-loop
 add-at c = search needs
@@ -57,14 +51,11 @@ loop-again c =
     let l = c .before .before .before .before .before .loop in (
       search needs,
       search needs,
-      l .inv .2 ∙ digits-more _ _ _ _ (c .before .before .before .before .loop-test .taken) (c .before .before .digit .ensures .0) (c .before .if1 .left) (omega arith),
+      l .inv .2 ∙ digits-more _ _ _ _ _ (c .before .before .before .before .loop-test .taken) (c .before .before .digit .ensures .0) (c .before .if1 .left) (omega arith),
     )
 
-cast-t15 : tie.Need-cast-t15 Inv-loop μ-loop
-cast-t15 c = search needs
-
 returns-3 : tie.Need-returns-3 Inv-loop μ-loop
-returns-3 c = sym (c .before .loop .inv .2 ∙ digits-done _ _ _ (c .loop-test .left))
+returns-3 c = sym (c .before .loop .inv .2 ∙ digits-done _ _ _ _ (c .loop-test .left))
 
 pub digits-spec : {M : Type 1} → statement M
 digits-spec =
@@ -75,8 +66,6 @@ digits-spec =
     loop-holds
     shared-slice-read-digit
     digit-requires
-    cast-d
-    cast-t13
     returns
     mul-w
     add-w
@@ -84,5 +73,4 @@ digits-spec =
     add-at
     loop-less
     loop-again
-    cast-t15
     returns-3)
