@@ -47,10 +47,12 @@ plan-shaped m xs t =
           (λ e. ap (λ (ln : Line). length (ln .shares)) (empty-line xs ws rows (f .tasks-few) (f .weighed) n i (ltb-false i (length xs / 2) e) h));
     }
 
--- the record that an accepted list starts
-pub started : (m : ℕ) (xs : List ℕ) → planOf m xs .refusal .no ≡ 0 → Good (recordOf (planOf m xs .plan))
-started m xs ok =
+-- so has the plan of an accepted list
+pub started-plan : (m : ℕ) (xs : List ℕ) → planOf m xs .refusal .no ≡ 0 → PlanShaped (planOf m xs .plan)
+started-plan m xs ok =
     let none : refusalOf m xs .no ≡ 0 = sym (plan-number m xs) ∙ ok in
-    fresh-good (planOf m xs .plan)
-    (subst⁻¹ PlanShaped (taken-plan m xs none) (plan-shaped m xs (exactly-taken m xs .0 none)))
-    (plan-sound m xs none)
+    subst⁻¹ PlanShaped (taken-plan m xs none) (plan-shaped m xs (exactly-taken m xs .0 none))
+
+-- the record that it starts
+pub started : (m : ℕ) (xs : List ℕ) → planOf m xs .refusal .no ≡ 0 → Good (recordOf (planOf m xs .plan))
+started m xs ok = fresh-good (planOf m xs .plan) (started-plan m xs ok) (plan-sound m xs (sym (plan-number m xs) ∙ ok))
