@@ -58,8 +58,8 @@ fn put_planned(buf: &mut [u8], cores: u32, table: &[u32]) -> usize
     put_plan(buf, plan, lates)
 }
 
-// The program's answer to a text; the buffer holds any.
-pub fn answer(text: &[u8], out: &mut [u8; ANSWER]) -> usize
+// The program's answer to a text, and its length.
+pub fn answer(text: &[u8], out: &mut [u8]) -> usize
     ensures { λ r. ⌜ Wrote (now (out .entry)) 0 (programText (now (text .entry))) (now (out .exit)) r ⌝ }
     ensures { λ r. ⌜ r ≤ 15960 ⌝ }
 {

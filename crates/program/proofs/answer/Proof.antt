@@ -36,17 +36,25 @@ part-put-planned-end c =
 put-planned-requires : tie.Need-put-planned-requires
 put-planned-requires c κs = search needs
 
+same-length : tie.Need-same-length
+same-length c = search needs
+
 returns : tie.Need-returns
 returns c =
-    let k = c .before .before .before in
+    let p = c .before .before in
+    let k = p .before .before .before in
     let q = k .before .before .before in
-    (recast (text-unreadable _ (q .read-text .ensures .0) (k .line .given .1)) (c .put-unreadable .ensures .0), search needs)
+    (recast (text-unreadable _ (q .read-text .ensures .0) (k .line .given .1)) (p .put-unreadable .ensures .0), search needs)
+
+same-length-2 : tie.Need-same-length-2
+same-length-2 c = search needs
 
 returns-2 : tie.Need-returns-2
 returns-2 c =
-    let k = c .before .before .before .before .before in
+    let p = c .before .before in
+    let k = p .before .before .before .before .before in
     let q = k .before .before .before in
-    (recast (text-read _ (q .read-text .ensures .0) _ (k .cores .given .1) (search needs) (q .read-text .ensures .1)) (c .put-planned .ensures .0), search needs)
+    (recast (text-read _ (q .read-text .ensures .0) _ (k .cores .given .1) (search needs) (q .read-text .ensures .1)) (p .put-planned .ensures .0), search needs)
 
 pub answer-spec : {M : Type 1} → statement M
 answer-spec =
@@ -61,5 +69,7 @@ answer-spec =
     part-put-planned-start
     part-put-planned-end
     put-planned-requires
+    same-length
     returns
+    same-length-2
     returns-2)

@@ -1,3 +1,4 @@
+-- `reading::first_unreadable` meets its contract.
 use borrow.Author.Needs.{needs}
 use Prim.Native.Nat.{_+_, _-_}
 use mathlib.Core.Path.{sym, _∙_}
@@ -6,7 +7,7 @@ use mathlib.Core.Path.{ap}
 use native.Mathlib.Omega.{arith}
 use Rattle.fields.specs.Lines.{pairEnd}
 use Rattle.fields.proofs.Sought.{Sought, first, later, here, ended}
-use Rattle.reading.specs.Text.{taskLine, taskEnd}
+use Rattle.reading.specs.Text.{taskEnd}
 use Rattle.reading.proofs.Tables.{task-kept}
 use Rattle.reading.proofs.first_unreadable.Statement.{statement}
 use Rattle.reading.proofs.first_unreadable.Tie as tie

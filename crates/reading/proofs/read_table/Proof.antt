@@ -1,3 +1,4 @@
+-- `reading::read_table` meets its contract.
 use Rattle.reading.proofs.Says.{gives-line, gives-table, table-says, table-line}
 use borrow.Author.Needs.{needs}
 use Rattle.reading.proofs.read_table.Statement.{statement}

@@ -1,5 +1,5 @@
+-- `reading::read_text` meets its contract.
 use mathlib.Core.Path.{sym, _∙_}
-use Rattle.reading.specs.Text.{coresLine}
 use Rattle.reading.proofs.Says.{gives-line, gives-same, text-long, text-empty, text-first, text-table}
 use native.Mathlib.Omega.{arith}
 use Rattle.fields.proofs.Fields.{field-kept}

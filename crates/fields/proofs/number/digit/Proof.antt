@@ -1,3 +1,4 @@
+-- `fields::number::digit` meets its contract.
 use Rattle.fields.specs.Number.{digitOf}
 use borrow.Author.Tests.{lt-leb, le-leb}
 use borrow.Author.Needs.{needs}
