@@ -8,6 +8,7 @@ use native.Mathlib.Omega.{arith}
 use borrow.Author.Tests.{eq-eqb, ne-eqb}
 use lib.ListN.{length, getD, drop, drop-of-length-le}
 use lib.Seq.{drop-cons}
+use Rattle.lists.proofs.Tests.{by-cases}
 use Rattle.fields.specs.Word.{starts, wordAt}
 use Rattle.fields.specs.declared.word.Word.the-variants.{After, NoWord}
 
@@ -50,3 +51,20 @@ module _ (w s : List ℕ) (at i next : ℕ) (h : Reading w s at i next) where
   whole p =
       let e : next ≡ at + length w = omega (arith, h .far, h .within) in
       rw (h .same, drop-of-length-le w p, e)
+
+module _ (w s : List ℕ) (at : ℕ) where
+  -- a word that was read stands there, and ends after its length
+  pub word-here : {next : ℕ} → wordAt w s at ≡ After next → (starts w (drop at s) ≡ true) × (next ≡ at + length w)
+  unfolding wordAt
+  word-here {next} e =
+      by-cases (starts w (drop at s))
+      (λ h. let f = rw h at e in let z : at + length w ≡ next = cc in (h, sym z))
+      (λ h. let f = rw h at e in let z : _≡_ {A = ℕ} 0 1 = cc in absurd (omega arith))
+
+  -- one that was not does not
+  pub word-none : wordAt w s at ≡ NoWord → starts w (drop at s) ≡ false
+  unfolding wordAt
+  word-none e =
+      by-cases (starts w (drop at s))
+      (λ h. let f = rw h at e in let z : _≡_ {A = ℕ} 0 1 = cc in absurd (omega arith))
+      (λ h. h)

@@ -1,0 +1,4 @@
+pub mod Line
+pub mod Input
+pub mod Answers
+pub mod Played

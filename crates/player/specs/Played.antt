@@ -1,0 +1,31 @@
+-- What the player writes: a line for each call, or the refusal of its input or of its table.
+use Prim.Native.Nat.{ℕ}
+use mathlib.Core.Bool.{cond}
+use mathlib.Core.List.{List, [], _∷_, _++_}
+use lib.Dec.{eqb}
+use lib.ListN.{length}
+use Rattle.dispatch.specs.declared.Record.{Record}
+use Rattle.dispatch.specs.declared.plan.Fresh.{Fresh}
+use Rattle.dispatch.specs.Record.{freshOf}
+use Rattle.dispatched.specs.Calls.{Call, step}
+use Rattle.program.specs.Program.{refusalText, unreadableText}
+use Rattle.player.specs.Input.{Given, plays, unplayable, inputOf, callsFrom}
+use Rattle.player.specs.Answers.{answerText}
+
+-- the answers of calls, each made on the record that the one before handed on
+unfoldable pub answersText : Record → List Call → List ℕ
+answersText r [] = []
+answersText r (c ∷ cs) = answerText r c ++ answersText (step r c) cs
+
+-- a table that is taken is played, another refused as by the program
+unfoldable pub freshText : Fresh → List Call → List ℕ
+freshText f cs = cond (eqb (f .refusal .no) 0) (answersText (f .next) cs) (refusalText (f .refusal))
+
+-- what an input says, answered
+unfoldable pub givenText : List ℕ → Given → List ℕ
+givenText s (plays m xs at) = freshText (freshOf m xs) (callsFrom (length s) s at)
+givenText s (unplayable line) = unreadableText line
+
+-- what the player writes: 16 comes first, then planning's refusals
+unfoldable pub playText : List ℕ → List ℕ
+playText s = givenText s (inputOf s)

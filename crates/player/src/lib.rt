@@ -1,0 +1,5 @@
+// The call player: a table and calls in, a line for each call out.
+pub mod answers;
+pub mod input;
+pub mod line;
+pub mod played;
