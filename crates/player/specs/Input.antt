@@ -63,6 +63,10 @@ thenCalls later (Finish i t next) = finish i t ∷ later next
 thenCalls later (Look k t next) = look k t ∷ later next
 thenCalls later NoCall = []
 
+-- the call of a line, if it has one
+abbrev pub callIn : CallLine → List Call
+callIn line = thenCalls (λ next. []) line
+
 -- the calls from a place on; f is no less than the lines' number
 unfoldable pub callsFrom : ℕ → List ℕ → ℕ → List Call
 callsFrom zero s at = []

@@ -1,27 +1,19 @@
 // Writing a call's answer.
-use crate::line::CallLine;
 use decimal::put_byte;
 use decimal::put_field;
 use decimal::put_signed;
 use decimal::put_text;
-use dispatch::Record;
 use dispatch::look::Choice;
 use dispatch::look::Side;
 use units::ticks::Ticks;
-ghost use mathlib.Core.Path.{_≡_};
 ghost use Prim.Native.Nat.{_+_, _≤_};
+ghost use mathlib.Core.List.{_++_};
+ghost use Rattle.decimal.specs.Decimal.{decimalOf};
+ghost use Rattle.decimal.specs.Field.{field};
 ghost use Rattle.decimal.specs.Limits.{placeLimit};
 ghost use Rattle.decimal.specs.Wrote.{Wrote};
-ghost use Rattle.dispatch.specs.Release.{releaseOf};
-ghost use Rattle.dispatch.specs.Finish.{finishOf};
-ghost use Rattle.dispatch.specs.Look.{lookOf};
-ghost use Rattle.player.specs.Answers.{refusedText, releasedText, finishedText, sideText, choiceText, lookedText};
-
-// The record after a call, and the place after its answer.
-pub struct Played {
-    pub next: Record,
-    pub end: usize,
-}
+ghost use Rattle.player.specs.Answers.{refusedText, releasedText, finishedText, moverText, choiceText, lookedText};
+ghost use lib.ListN.{length};
 
 // A refused call.
 fn put_refused(buf: &mut [u8], at: usize, refusal: u32) -> usize
@@ -30,5 +22,81 @@ fn put_refused(buf: &mut [u8], at: usize, refusal: u32) -> usize
     ensures { λ r. ⌜ r ≤ at + 60 ⌝ }
 {
     let a = put_field(buf, at, b"refused ", refusal as u64);
+    put_byte(buf, a, 10)
+}
+
+// A release's answer.
+pub fn put_released(buf: &mut [u8], at: usize, refusal: u32, core: usize, deadline: Ticks) -> usize
+    requires { ⌜ at + 60 ≤ placeLimit ⌝ }
+    ensures { λ r. ⌜ Wrote (now (buf .entry)) at (releasedText refusal core (deadline .0)) (now (buf .exit)) r ⌝ }
+    ensures { λ r. ⌜ r ≤ at + 60 ⌝ }
+{
+    if refusal != 0 {
+        return put_refused(buf, at, refusal);
+    }
+    let a = put_field(buf, at, b"core ", core as u64);
+    let b = put_field(buf, a, b" deadline ", deadline.0);
+    put_byte(buf, b, 10)
+}
+
+// A finish's answer.
+pub fn put_finished(buf: &mut [u8], at: usize, refusal: u32, late: i64) -> usize
+    requires { ⌜ at + 60 ≤ placeLimit ⌝ }
+    ensures { λ r. ⌜ Wrote (now (buf .entry)) at (finishedText refusal late) (now (buf .exit)) r ⌝ }
+    ensures { λ r. ⌜ r ≤ at + 60 ⌝ }
+{
+    if refusal != 0 {
+        return put_refused(buf, at, refusal);
+    }
+    let a = put_text(buf, at, b"late ");
+    let b = put_signed(buf, a, late);
+    put_byte(buf, b, 10)
+}
+
+// A chosen task and its deadline, after a word.
+fn put_chosen(buf: &mut [u8], at: usize, word: &[u8], task: usize, deadline: Ticks) -> usize
+    requires { ⌜ (at + 59 ≤ placeLimit) × (length (now word) ≤ 6) ⌝ }
+    ensures { λ r. ⌜ Wrote (now (buf .entry)) at (now (word .entry) ++ decimalOf task ++ field " deadline " (deadline .0)) (now (buf .exit)) r ⌝ }
+    ensures { λ r. ⌜ r ≤ at + 59 ⌝ }
+{
+    let a = put_field(buf, at, word, task as u64);
+    put_field(buf, a, b" deadline ", deadline.0)
+}
+
+// A mover's side, its task and deadline.
+fn put_mover(buf: &mut [u8], at: usize, side: Side, task: usize, deadline: Ticks) -> usize
+    requires { ⌜ at + 59 ≤ placeLimit ⌝ }
+    ensures { λ r. ⌜ Wrote (now (buf .entry)) at (moverText side task (deadline .0)) (now (buf .exit)) r ⌝ }
+    ensures { λ r. ⌜ r ≤ at + 59 ⌝ }
+{
+    match side {
+        Side::Upper => put_chosen(buf, at, b"upper ", task, deadline),
+        Side::Lower => put_chosen(buf, at, b"lower ", task, deadline),
+    }
+}
+
+// A core's choice.
+fn put_choice(buf: &mut [u8], at: usize, choice: Choice) -> usize
+    requires { ⌜ at + 59 ≤ placeLimit ⌝ }
+    ensures { λ r. ⌜ Wrote (now (buf .entry)) at (choiceText choice) (now (buf .exit)) r ⌝ }
+    ensures { λ r. ⌜ r ≤ at + 59 ⌝ }
+{
+    match choice {
+        Choice::Idle => put_text(buf, at, b"idle"),
+        Choice::Fixed(task, deadline) => put_chosen(buf, at, b"fixed ", task, deadline),
+        Choice::Mover(task, deadline, side) => put_mover(buf, at, side, task, deadline),
+    }
+}
+
+// A look's answer.
+pub fn put_looked(buf: &mut [u8], at: usize, refusal: u32, choice: Choice) -> usize
+    requires { ⌜ at + 60 ≤ placeLimit ⌝ }
+    ensures { λ r. ⌜ Wrote (now (buf .entry)) at (lookedText refusal choice) (now (buf .exit)) r ⌝ }
+    ensures { λ r. ⌜ r ≤ at + 60 ⌝ }
+{
+    if refusal != 0 {
+        return put_refused(buf, at, refusal);
+    }
+    let a = put_choice(buf, at, choice);
     put_byte(buf, a, 10)
 }

@@ -2,4 +2,3 @@
 pub mod answers;
 pub mod input;
 pub mod line;
-pub mod played;
