@@ -2,3 +2,5 @@
 pub mod answers;
 pub mod input;
 pub mod line;
+pub mod play;
+pub mod played;

@@ -3,3 +3,4 @@ pub mod Stored
 pub mod Says
 pub mod Count
 pub mod Examples
+pub mod Answered

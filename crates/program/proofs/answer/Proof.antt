@@ -1,7 +1,8 @@
 -- `program::answer` meets its contract.
 use native.Mathlib.Omega.{arith}
 use Rattle.decimal.proofs.Wrote.{recast}
-use Rattle.program.proofs.Texts.{text-unreadable, text-count, text-read}
+use Rattle.program.proofs.Texts.{text-unreadable, text-read}
+use Rattle.reading.proofs.Answered.{is-unreadable, is-few, is-read}
 use borrow.Author.Needs.{needs}
 use Rattle.program.proofs.answer.Statement.{statement}
 use Rattle.program.proofs.answer.Tie as tie
@@ -31,7 +32,7 @@ part-put-planned-end : tie.Need-part-put-planned-end
 part-put-planned-end c =
     let k = c .before .before .before in
     let q = k .before .before .before in
-    omega (arith, text-count _ (q .read-text .ensures .0) (k .cores .given .1))
+    omega (arith, is-few _ (q .read-text .ensures .0) (k .cores .given .1))
 
 put-planned-requires : tie.Need-put-planned-requires
 put-planned-requires c κs = search needs
@@ -44,7 +45,7 @@ returns c =
     let p = c .before .before in
     let k = p .before .before .before in
     let q = k .before .before .before in
-    (recast (text-unreadable _ (q .read-text .ensures .0) (k .line .given .1)) (p .put-unreadable .ensures .0), search needs)
+    (recast (text-unreadable _ (is-unreadable _ (q .read-text .ensures .0) (k .line .given .1))) (p .put-unreadable .ensures .0), search needs)
 
 same-length-2 : tie.Need-same-length-2
 same-length-2 c = search needs
@@ -54,7 +55,7 @@ returns-2 c =
     let p = c .before .before in
     let k = p .before .before .before .before .before in
     let q = k .before .before .before in
-    (recast (text-read _ (q .read-text .ensures .0) _ (k .cores .given .1) (search needs) (q .read-text .ensures .1)) (p .put-planned .ensures .0), search needs)
+    (recast (text-read _ (is-read _ (q .read-text .ensures .0) (k .cores .given .1) _ (search needs) (q .read-text .ensures .1))) (p .put-planned .ensures .0), search needs)
 
 pub answer-spec : {M : Type 1} → statement M
 answer-spec =

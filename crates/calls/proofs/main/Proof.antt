@@ -1,0 +1,76 @@
+-- `calls::main` meets its contract.
+use Rattle.streams.proofs.Within.{within}
+use borrow.Author.Needs.{needs}
+use Rattle.calls.proofs.main.Statement.{statement}
+use Rattle.calls.proofs.main.Tie as tie
+
+slice-aggregate-read-input : tie.Need-slice-aggregate-read-input
+slice-aggregate-read-input c = search needs
+
+read-input-requires : tie.Need-read-input-requires
+read-input-requires c κs = search needs
+
+enum-told : tie.Need-enum-told
+enum-told c = search needs
+
+enum-known-n : tie.Need-enum-known-n
+enum-known-n c = search needs
+
+room-requires : tie.Need-room-requires
+room-requires c κs = search needs
+
+sub-play : tie.Need-sub-play
+sub-play c = search needs
+
+part-play-start : tie.Need-part-play-start
+part-play-start c = search needs
+
+part-play-end : tie.Need-part-play-end
+part-play-end c =
+    let k = c .before .before .before in
+    within _ _ (k .n .given .1) (k .before .before .before .read-input .ensures)
+
+slice-aggregate-play : tie.Need-slice-aggregate-play
+slice-aggregate-play c = search needs
+
+play-requires : tie.Need-play-requires
+play-requires c κs = search needs
+
+sub-write-output : tie.Need-sub-write-output
+sub-write-output c = search needs
+
+part-write-output-start : tie.Need-part-write-output-start
+part-write-output-start c = search needs
+
+part-write-output-end : tie.Need-part-write-output-end
+part-write-output-end c = search needs
+
+write-output-requires : tie.Need-write-output-requires
+write-output-requires c κs = search needs
+
+returns : tie.Need-returns
+returns c = search needs
+
+returns-2 : tie.Need-returns-2
+returns-2 c = search needs
+
+pub main-spec : {M : Type 1} → statement M
+main-spec =
+    tie.close
+    (tie.spec
+    slice-aggregate-read-input
+    read-input-requires
+    enum-told
+    enum-known-n
+    room-requires
+    sub-play
+    part-play-start
+    part-play-end
+    slice-aggregate-play
+    play-requires
+    sub-write-output
+    part-write-output-start
+    part-write-output-end
+    write-output-requires
+    returns
+    returns-2)

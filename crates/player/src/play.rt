@@ -1,0 +1,70 @@
+// What the player writes for an input.
+use crate::input::calls_place;
+use crate::input::first_bad;
+use crate::played::play_calls;
+use dispatch::Record;
+use program::NUMBERS;
+use program::put_refusal;
+use program::put_unreadable;
+use reading::Reading;
+use reading::read_text;
+ghost use Prim.Native.Nat.{_≤_};
+ghost use lib.ListN.{length};
+ghost use Rattle.decimal.specs.Wrote.{Wrote};
+ghost use Rattle.reading.specs.Text.{says};
+ghost use Rattle.player.specs.Input.{inputLimit, plays, afterTable};
+ghost use Rattle.player.specs.Played.{givenText, playText};
+
+// Bytes of an input, at most.
+pub const INPUT: usize = 65_536;
+// Bytes that any answer fits.
+pub const ANSWERS: usize = 524_288;
+
+// The calls after a table that can be read, whose text ends at a place.
+fn play_table(text: &[u8], place: usize, cores: u32, table: &[u32], out: &mut [u8]) -> usize
+    requires { ⌜ (length (now text) ≤ inputLimit) × (length (now table) ≤ 2048) ⌝ }
+    ensures { λ r. ⌜ Wrote (now (out .entry)) 0 (givenText (now (text .entry)) (afterTable (now (text .entry)) place (says cores (now (table .entry))))) (now (out .exit)) r ⌝ }
+    ensures { λ r. ⌜ r ≤ 460000 ⌝ }
+{
+    let tasks = table.len() / 2;
+    if text.len() <= place {
+        return put_unreadable(out, 0, 2 + tasks);
+    }
+    let from = place + 6;
+    let bad = first_bad(text, from, 3 + tasks);
+    if bad != 0 {
+        return put_unreadable(out, 0, bad);
+    }
+    play_taken(text, from, cores, table, out)
+}
+
+// The calls from a place on, if the table is taken.
+fn play_taken(text: &[u8], from: usize, cores: u32, table: &[u32], out: &mut [u8]) -> usize
+    requires { ⌜ length (now text) ≤ inputLimit ⌝ }
+    ensures { λ r. ⌜ Wrote (now (out .entry)) 0 (givenText (now (text .entry)) (plays cores (now (table .entry)) from)) (now (out .exit)) r ⌝ }
+    ensures { λ r. ⌜ r ≤ 460000 ⌝ }
+{
+    let fresh = Record::fresh(cores, table);
+    let refusal = fresh.refusal;
+    if refusal.no != 0 {
+        return put_refusal(out, 0, refusal);
+    }
+    let first = fresh.next;
+    play_calls(text, from, first, out)
+}
+
+// The answers to an input's calls, or its refusal, and their length.
+pub fn play(text: &[u8], out: &mut [u8]) -> usize
+    ensures { λ r. ⌜ Wrote (now (out .entry)) 0 (playText (now (text .entry))) (now (out .exit)) r ⌝ }
+    ensures { λ r. ⌜ r ≤ 460000 ⌝ }
+{
+    if INPUT < text.len() {
+        return put_unreadable(out, 0, 0);
+    }
+    let place = calls_place(text);
+    let mut table = [0u32; NUMBERS];
+    match read_text(&text[0..place], &mut table) {
+        Reading::Unreadable(line) => put_unreadable(out, 0, line),
+        Reading::Read { cores, count } => play_table(text, place, cores, &table[0..count], out),
+    }
+}
