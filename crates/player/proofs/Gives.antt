@@ -10,7 +10,7 @@ use Rattle.reading.specs.Text.{Said, says, unreadable, textOf}
 use Rattle.dispatch.specs.declared.plan.Fresh.{Fresh}
 use Rattle.dispatch.specs.Record.{freshOf}
 use Rattle.program.specs.Program.{refusalText, unreadableText}
-use Rattle.player.specs.Input.{inputLimit, plays, badCall, callsPlace, afterCalls, afterTable, inputOf}
+use Rattle.input.specs.Input.{inputLimit, plays, badCall, callsPlace, afterCalls, afterTable, inputOf}
 use Rattle.player.specs.Played.{answersText, freshText, givenText, playText}
 use Rattle.player.proofs.Plays.{callsAt}
 

@@ -17,13 +17,13 @@ use Rattle.dispatch.specs.Release.{releaseOf}
 use Rattle.dispatch.specs.Finish.{finishOf}
 use Rattle.dispatch.specs.Look.{lookOf}
 use Rattle.dispatched.specs.Calls.{Call, release, finish, look, step, after}
-use Rattle.player.specs.Line.{callLine, lineAfter}
-use Rattle.player.specs.Input.{inputLimit, thenCalls, callIn, callsFrom}
+use Rattle.input.specs.Line.{callLine, lineAfter}
+use Rattle.input.specs.Input.{inputLimit, thenCalls, callIn, callsFrom}
 use Rattle.player.specs.Answers.{releasedText, finishedText, lookedText, answerText}
 use Rattle.player.specs.Played.{answersText}
-use Rattle.player.specs.declared.line.CallLine.{CallLine}
-use Rattle.player.specs.declared.line.CallLine.the-variants.{Release, Finish, Look, NoCall}
-use Rattle.player.proofs.Lines.{Reach, call-reach, from-start, ahead}
+use Rattle.input.specs.declared.line.CallLine.{CallLine}
+use Rattle.input.specs.declared.line.CallLine.the-variants.{Release, Finish, Look, NoCall}
+use Rattle.input.proofs.Lines.{Reach, call-reach, from-start, ahead}
 
 module _ (r : Record) (i t : ℕ) where
   -- a release's answer

@@ -1,4 +1,2 @@
-pub mod Line
-pub mod Input
 pub mod Answers
 pub mod Played

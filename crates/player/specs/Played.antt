@@ -9,7 +9,7 @@ use Rattle.dispatch.specs.declared.plan.Fresh.{Fresh}
 use Rattle.dispatch.specs.Record.{freshOf}
 use Rattle.dispatched.specs.Calls.{Call, step}
 use Rattle.program.specs.Program.{refusalText, unreadableText}
-use Rattle.player.specs.Input.{Given, plays, unplayable, inputOf, callsFrom}
+use Rattle.input.specs.Input.{Given, plays, unplayable, inputOf, callsFrom}
 use Rattle.player.specs.Answers.{answerText}
 
 -- the answers of calls, each made on the record that the one before handed on

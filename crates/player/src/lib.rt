@@ -1,6 +1,4 @@
 // The call player: a table and calls in, a line for each call out.
 pub mod answers;
-pub mod input;
-pub mod line;
 pub mod play;
 pub mod played;

@@ -1,8 +1,8 @@
 // What the player writes for an input.
-use crate::input::calls_place;
-use crate::input::first_bad;
 use crate::played::play_calls;
 use dispatch::Record;
+use input::calls::calls_place;
+use input::calls::first_bad;
 use program::NUMBERS;
 use program::put_refusal;
 use program::put_unreadable;
@@ -12,7 +12,7 @@ ghost use Prim.Native.Nat.{_≤_};
 ghost use lib.ListN.{length};
 ghost use Rattle.decimal.specs.Wrote.{Wrote};
 ghost use Rattle.reading.specs.Text.{says};
-ghost use Rattle.player.specs.Input.{inputLimit, plays, afterTable};
+ghost use Rattle.input.specs.Input.{inputLimit, plays, afterTable};
 ghost use Rattle.player.specs.Played.{givenText, playText};
 
 // Bytes of an input, at most.

@@ -2,10 +2,10 @@
 use crate::answers::put_finished;
 use crate::answers::put_looked;
 use crate::answers::put_released;
-use crate::line::CallLine;
-use crate::line::line_after;
-use crate::line::read_call;
 use dispatch::Record;
+use input::line::CallLine;
+use input::line::line_after;
+use input::line::read_call;
 use units::ticks::Ticks;
 ghost use mathlib.Core.Path.{_≡_};
 ghost use Prim.Native.Nat.{_+_, _≤_};
@@ -13,7 +13,7 @@ ghost use lib.ListN.{length};
 ghost use Rattle.decimal.specs.Limits.{placeLimit};
 ghost use Rattle.decimal.specs.Wrote.{Wrote};
 ghost use Rattle.dispatched.specs.Calls.{release, finish, look, step, after};
-ghost use Rattle.player.specs.Input.{inputLimit, callIn, callsFrom};
+ghost use Rattle.input.specs.Input.{inputLimit, callIn, callsFrom};
 ghost use Rattle.player.specs.Answers.{answerText};
 ghost use Rattle.player.specs.Played.{answersText};
 

@@ -3,8 +3,8 @@ use mathlib.Core.Path.{sym, ap, _∙_}
 use native.Mathlib.Omega.{arith}
 use lib.ListN.{length}
 use Rattle.decimal.proofs.Wrote.{kept}
-use Rattle.player.specs.Line.{lineAfter}
-use Rattle.player.proofs.Lines.{ahead}
+use Rattle.input.specs.Line.{lineAfter}
+use Rattle.input.proofs.Lines.{ahead}
 use Rattle.player.proofs.Plays.{Playing, begun, ended, stopped, onward}
 use borrow.Author.Needs.{needs}
 -- `player::played::play_calls` meets its contract.

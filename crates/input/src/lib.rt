@@ -1,0 +1,3 @@
+// The call player's input: a table's text, a line `calls`, then one call to a line.
+pub mod calls;
+pub mod line;
