@@ -1,0 +1,4 @@
+pub mod Digits
+pub mod Shares
+pub mod Line
+pub mod Listing

@@ -1,0 +1,1 @@
+// What is written can be read: a listing determines its plan. Theorems in proofs/.
