@@ -70,3 +70,7 @@ examples =
     ∷ refuses 1 (6 ∷ 5 ∷ 0 ∷ 1 ∷ []) 4 1
     ∷ refuses 0 [] 1 0
     ∷ []
+
+-- a slip that no line of the table shows: shares 2 and 2 are not turned in blocks, 1, 1, 2, 2
+abbrev pub notInBlocks : Example
+notInBlocks = turns (2 ∷ 2 ∷ []) (1 ∷ 2 ∷ 1 ∷ 2 ∷ [])
