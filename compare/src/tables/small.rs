@@ -1,0 +1,23 @@
+//! Small common periods, where ties of weights and loads are frequent.
+
+use super::fit::{divisors, Room};
+use super::Table;
+use crate::random::Random;
+
+pub fn table(random: &mut Random) -> Table {
+    let common = random.between(1, 60);
+    let periods = divisors(common);
+    let cores = random.between(1, 16);
+    let mut room = Room::new(cores, common);
+    let heavy = random.one_in(2);
+    // Some boxes are offered more than they hold.
+    room.rest += random.pick(&[0, 0, 0, 1, common]);
+    for _ in 0..random.between(1, 64) {
+        let period = random.pick(&periods);
+        room.add_random(random, period, heavy);
+    }
+    Table {
+        cores: cores as u32,
+        numbers: room.finish(),
+    }
+}

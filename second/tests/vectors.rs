@@ -1,0 +1,39 @@
+//! Every example input in the folder named by VECTORS gives its right output.
+#![forbid(unsafe_code)]
+
+use std::fs;
+use std::path::{Path, PathBuf};
+
+/// The folder of examples, with the reason if it is not given.
+fn folder(part: &str) -> PathBuf {
+    let folder = std::env::var_os("VECTORS")
+        .expect("set VECTORS to the folder that holds the example folders plan and calls");
+    Path::new(&folder).join(part)
+}
+
+/// Runs each input of a folder and compares every byte.
+fn compare(part: &str, work: fn(&[u8]) -> Vec<u8>) {
+    let folder = folder(part);
+    let mut tested = 0;
+    for entry in fs::read_dir(&folder).expect("the folder can be read") {
+        let input = entry.expect("the folder can be read").path();
+        if input.extension().is_some_and(|end| end == "in") {
+            let given = fs::read(&input).expect("the input can be read");
+            let right = fs::read(input.with_extension("out")).expect("there is an output");
+            let answer = String::from_utf8(work(&given)).expect("the answer is text");
+            assert_eq!(answer, String::from_utf8_lossy(&right), "{input:?}");
+            tested += 1;
+        }
+    }
+    assert!(tested > 0, "no example in {folder:?}");
+}
+
+#[test]
+fn plans() {
+    compare("plan", second::program::program);
+}
+
+#[test]
+fn calls() {
+    compare("calls", second::player::calls);
+}
