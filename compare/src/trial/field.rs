@@ -34,7 +34,10 @@ pub fn held(place: usize, value: u64) -> u64 {
     let place = place % TASK;
     if HAD.contains(&place) {
         value % 2
-    } else if [WEIGHT, SHARES, COUNTS].iter().any(|f| f.contains(&place)) {
+    } else if [WEIGHT, SHARES, COUNTS, PLACE]
+        .iter()
+        .any(|f| f.contains(&place))
+    {
         narrow(value)
     } else {
         value
