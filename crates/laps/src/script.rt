@@ -1,0 +1,166 @@
+// Calls, read once and played often.
+use dispatch::Record;
+use dispatch::look::Choice;
+use input::calls::calls_place;
+use input::line::CallLine;
+use input::line::line_after;
+use input::line::read_call;
+use units::ticks::Ticks;
+ghost use Prim.Native.Nat.{_≤_};
+
+// Calls of a script, at most.
+const CALLS: usize = 2_048;
+
+// One call: 1 release, 2 finish, 3 look; its task or core, and its time.
+pub struct Step {
+    pub kind: u8,
+    pub number: usize,
+    pub time: Ticks,
+}
+
+pub struct Script {
+    pub steps: [Step; CALLS],
+    pub count: usize,
+}
+
+// A record after a call, and a sum of what it answered.
+pub struct Answered {
+    pub next: Record,
+    pub sum: u64,
+}
+
+fn step_from(kind: u8, number: u64, time: u64) -> Step {
+    Step {
+        kind: kind,
+        number: number as usize,
+        time: Ticks(time),
+    }
+}
+
+// The call of a line.
+fn step_of(line: CallLine) -> Step {
+    match line {
+        CallLine::Release(i, t, next) => step_from(1, i, t),
+        CallLine::Finish(i, t, next) => step_from(2, i, t),
+        CallLine::Look(k, t, next) => step_from(3, k, t),
+        CallLine::NoCall => step_from(0, 0, 0),
+    }
+}
+
+// The calls of an input.
+pub fn script_of(text: &[u8]) -> Script {
+    let mut steps = [Step {
+        kind: 0,
+        number: 0,
+        time: Ticks(0),
+    }; CALLS];
+    let mut at = std::num::wrapping_add_u64(calls_place(text) as u64, 6) as usize;
+    let mut k: usize = 0;
+    while k < CALLS {
+        let line = read_call(text, at);
+        let next = line_after(line);
+        if next == 0 {
+            return Script {
+                steps: steps,
+                count: k,
+            };
+        }
+        let read = step_of(line);
+        steps[k] = read;
+        at = next;
+        k += 1;
+    }
+    Script {
+        steps: steps,
+        count: k,
+    }
+}
+
+// Sums may wrap.
+pub fn add(a: u64, b: u64) -> u64 {
+    std::num::wrapping_add_u64(a, b)
+}
+
+fn release(held: Record, number: usize, time: Ticks) -> Answered {
+    let answer = held.release(number, time);
+    let sum = add(
+        answer.refusal as u64,
+        add(answer.core as u64, answer.deadline.0),
+    );
+    let next = answer.next;
+    Answered {
+        next: next,
+        sum: sum,
+    }
+}
+
+fn finish(held: Record, number: usize, time: Ticks) -> Answered {
+    let answer = held.finish(number, time);
+    let sum = add(answer.refusal as u64, (answer.late < 0) as u64);
+    let next = answer.next;
+    Answered {
+        next: next,
+        sum: sum,
+    }
+}
+
+fn look(held: Record, number: usize, time: Ticks) -> Answered {
+    let answer = held.look(number, time);
+    let refusal = answer.refusal as u64;
+    let choice = answer.choice;
+    let chosen = match choice {
+        Choice::Idle => 0,
+        Choice::Fixed(task, deadline) => add(task as u64, deadline.0),
+        Choice::Mover(task, deadline, side) => add(task as u64, deadline.0),
+    };
+    let next = answer.next;
+    Answered {
+        next: next,
+        sum: add(refusal, chosen),
+    }
+}
+
+// One call.
+fn made(held: Record, step: Step) -> Answered {
+    let time = step.time;
+    if step.kind == 1 {
+        return release(held, step.number, time);
+    }
+    if step.kind == 2 {
+        return finish(held, step.number, time);
+    }
+    look(held, step.number, time)
+}
+
+// No more than a script has room for.
+fn few(count: usize) -> usize
+    ensures { λ r. ⌜ r ≤ 2048 ⌝ }
+{
+    if count < CALLS { count } else { CALLS }
+}
+
+// All calls of a script.
+pub fn lap_all(first: Record, script: Script) -> Answered {
+    let steps = script.steps;
+    let count = few(script.count);
+    let mut held = first;
+    let mut sum: u64 = 0;
+    let mut k: usize = 0;
+    while k < count {
+        let next = steps[k];
+        let answer = made(held, next);
+        held = answer.next;
+        sum = add(sum, answer.sum);
+        k += 1;
+    }
+    Answered {
+        next: held,
+        sum: sum,
+    }
+}
+
+// The record after a script.
+pub fn played(first: Record, script: Script) -> Record {
+    let answer = lap_all(first, script);
+    answer.next
+}

@@ -1,0 +1,101 @@
+//! `measure COMMAND..`: times the product's laps, started by a command, against the second program, in one run.
+#![forbid(unsafe_code)]
+
+mod boxes;
+mod ours;
+mod theirs;
+
+use boxes::{full, sized, Bench, Call};
+
+/// How often each figure is taken; the median is shown.
+const TIMES: usize = 7;
+
+/// A figure: its kind, the rounds of a lap, the calls, and calls whose time is taken off.
+struct Figure {
+    kind: char,
+    rounds: u64,
+    calls: Vec<Call>,
+    less: Vec<Call>,
+}
+
+impl Figure {
+    fn of(kind: char, rounds: u64, calls: Vec<Call>, less: Vec<Call>) -> Figure {
+        Figure {
+            kind,
+            rounds,
+            calls,
+            less,
+        }
+    }
+
+    /// Nanoseconds of one operation, by one side's way to time a round.
+    fn each(&self, round: impl Fn(&[Call]) -> f64) -> f64 {
+        if self.kind != 'c' {
+            return round(&self.calls);
+        }
+        let base = if self.less.is_empty() {
+            0.0
+        } else {
+            round(&self.less)
+        };
+        (round(&self.calls) - base) / (self.calls.len() - self.less.len()) as f64
+    }
+
+    /// A line `name ours second ratio`, with the spread of the ratio.
+    fn show(&self, name: &str, command: &[String], bench: &Bench) {
+        let mut both: Vec<(f64, f64)> = (0..TIMES)
+            .map(|_| {
+                (
+                    self.each(|calls| ours::round(command, bench, self.kind, self.rounds, calls)),
+                    self.each(|calls| theirs::round(bench, self.kind, self.rounds, calls)),
+                )
+            })
+            .collect();
+        both.sort_by(|a, b| (a.0 / a.1).total_cmp(&(b.0 / b.1)));
+        let ratio = |k: usize| both[k].0 / both[k].1;
+        let (ours, theirs) = both[TIMES / 2];
+        println!(
+            "{name} {ours:.0} {theirs:.0} {:.2} ({:.2} to {:.2})",
+            ratio(TIMES / 2),
+            ratio(0),
+            ratio(TIMES - 1)
+        );
+    }
+}
+
+/// Every figure of a box, with a word after its name.
+fn figures(bench: &Bench, command: &[String], word: &str) {
+    let held = bench.releases(2);
+    let each = |kind| Figure::of(kind, 2_000, held.clone(), Vec::new());
+    for (name, figure) in [
+        ("plan", each('p')),
+        ("admission", each('a')),
+        ("listing", each('l')),
+        ("soundness", each('s')),
+        (
+            "release",
+            Figure::of('c', 40, bench.releases(8), Vec::new()),
+        ),
+        (
+            "finish",
+            Figure::of('c', 40, bench.finishes(8), bench.releases(8)),
+        ),
+        ("look", Figure::of('c', 40, bench.looks(512), held.clone())),
+    ] {
+        figure.show(&format!("{name}{word}"), command, bench);
+    }
+}
+
+fn main() {
+    let command: Vec<String> = std::env::args().skip(1).collect();
+    assert!(!command.is_empty(), "usage: measure COMMAND..");
+    println!("name ours_ns second_ns ratio (spread)");
+    figures(&full(), &command, "");
+    for (tasks, cores) in [(8, 16), (16, 16), (32, 16), (64, 2), (64, 4), (64, 8)] {
+        figures(
+            &sized(tasks, cores),
+            &command,
+            &format!("_{tasks}_tasks_{cores}_cores"),
+        );
+    }
+}
