@@ -1,12 +1,15 @@
 -- The movers of each core, gathered from the last line to the first.
 use Prim.Native.Nat.{ℕ, _+_, _≤_, _<_}
+use mathlib.Core.Path.{refl}
 use mathlib.Core.List.{List}
 use native.Mathlib.Numerals.{add-one}
 use lib.ListN.{length, getD, drop, replicate, drop-of-length-le, getD-replicate}
 use lib.Seq.{drop-cons}
+use borrow.Author.Tests.{le-ltb}
 use Rattle.units.specs.Limits.{coresLimit}
+use Rattle.lists.specs.Lists.{parts}
 use Rattle.planning.specs.declared.Line.{Line}
-use Rattle.planning.specs.Plan.{noLine, emptyLine}
+use Rattle.planning.specs.Plan.{noLine, emptyLine, rowOf}
 use Rattle.lateness.specs.declared.movers.Movers.{Movers}
 use Rattle.lateness.specs.Cores.{WithLine, MoversOf}
 
@@ -25,3 +28,10 @@ gathered-next lns i ms new h k w = rw (drop-cons lns i noLine h, ← (add-one i)
   uppers = λ p l. rw (← (k .uppers p l)) (w .uppers p l);
   lowers = λ p l. rw (← (k .lowers p l)) (w .lowers p l);
 })
+
+-- a line that does not move changes nothing
+pub unmoved : (ms : Movers) (ln : Line) → parts (rowOf ln) ≤ 1 → WithLine ms ln ms
+unmoved ms ln h = record {
+  uppers = λ p l. rw (le-ltb 1 (parts (rowOf ln)) h) refl;
+  lowers = λ p l. rw (le-ltb 1 (parts (rowOf ln)) h) refl;
+}

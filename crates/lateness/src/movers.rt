@@ -53,7 +53,10 @@ pub fn movers_of(lines: [Line; TASKS]) -> Movers
     while 0 < i {
         i -= 1;
         let line = lines[i];
-        movers = with_line(movers, line);
+        let shares = line.shares;
+        if 1 < parts_of(shares) {
+            movers = with_line(movers, line);
+        }
     }
     movers
 }

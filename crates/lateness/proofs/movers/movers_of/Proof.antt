@@ -7,7 +7,7 @@ use lib.ListN.{length, drop}
 use Rattle.units.specs.Limits.{tasksLimit}
 use Rattle.planning.specs.Plan.{emptyLine}
 use Rattle.lateness.specs.Cores.{MoversOf}
-use Rattle.lateness.proofs.Gathered.{gathered-none, gathered-next}
+use Rattle.lateness.proofs.Gathered.{gathered-none, gathered-next, unmoved}
 use Rattle.lateness.proofs.movers.movers_of.Statement.{statement}
 use Rattle.lateness.proofs.movers.movers_of.Tie as tie
 
@@ -32,6 +32,9 @@ mul-line c = omega arith
 array-copy-out-line : tie.Need-array-copy-out-line Inv-loop μ-loop
 array-copy-out-line c = omega arith
 
+parts-of-requires : tie.Need-parts-of-requires Inv-loop μ-loop
+parts-of-requires c κs = search needs
+
 with-line-requires : tie.Need-with-line-requires Inv-loop μ-loop
 with-line-requires c κs = search needs
 
@@ -40,11 +43,22 @@ loop-less c = omega arith
 
 loop-again : tie.Need-loop-again Inv-loop μ-loop
 loop-again c =
-    let ls = c .before .before .before .before .args .t1 in
-    let at = c .before .before .before .loop in
+    let at = c .before .before .before .before .before .before .loop in
+    let ls = c .before .before .before .before .before .before .before .args .t1 in
     let l : length ls ≡ tasksLimit = search needs in
     let e : (at .i - 1) + 1 ≡ at .i = omega arith in
     (omega arith, gathered-next ls (at .i - 1) (at .movers) (c .with-line .result) (omega arith) (rw e (at .inv .1)) (c .with-line .ensures))
+
+loop-less-2 : tie.Need-loop-less-2 Inv-loop μ-loop
+loop-less-2 c = omega arith
+
+loop-again-2 : tie.Need-loop-again-2 Inv-loop μ-loop
+loop-again-2 c =
+    let at = c .before .before .before .before .before .loop in
+    let ls = c .before .before .before .before .before .before .args .t1 in
+    let l : length ls ≡ tasksLimit = search needs in
+    let e : (at .i - 1) + 1 ≡ at .i = omega arith in
+    (omega arith, gathered-next ls (at .i - 1) (at .movers) (at .movers) (omega arith) (rw e (at .inv .1)) (unmoved (at .movers) _ (omega (arith, c .before .parts-of .ensures, c .if1 .left))))
 
 returns : tie.Need-returns Inv-loop μ-loop
 returns c =
@@ -61,7 +75,10 @@ movers-of-spec =
     sub-i
     mul-line
     array-copy-out-line
+    parts-of-requires
     with-line-requires
     loop-less
     loop-again
+    loop-less-2
+    loop-again-2
     returns)
