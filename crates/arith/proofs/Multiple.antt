@@ -1,19 +1,21 @@
 -- The least common multiple is a multiple of both numbers and divides each number that is.
-use Prim.Native.Nat.{ℕ, _*_, _/_, _<_, _∣_}
+use Prim.Native.Nat.{ℕ, _*_, _/_, _%_, _<_, _∣_}
 use mathlib.Core.Path.{_≡_, ap}
 use mathlib.Core.Logic.{⊎-elim}
 use native.Mathlib.Nat.{
   mul-comm,
   mul-pos,
-  zero-mul,
-  div-zero,
+  mul-zero,
   eq-zero-or-pos,
   div-mul-cancel,
   mul-div-cancel',
+  dvd-refl,
   dvd-zero,
   dvd-mul-left,
   dvd-mul-right,
   dvd-trans,
+  dvd-antisymm,
+  dvd-of-mod-eq-zero,
   mul-dvd-mul-left,
   mul-dvd-mul-right,
   dvd-of-mul-dvd-mul-left,
@@ -22,7 +24,7 @@ use native.Mathlib.Nat.{
 }
 use native.Mathlib.Omega.{arith}
 use Rattle.arith.specs.Divisor.{gcd, lcm}
-use Rattle.arith.proofs.Euclid.{gcd-left, gcd-right, gcd-greatest, gcd-pos}
+use Rattle.arith.proofs.Euclid.{gcd-step, gcd-left, gcd-right, gcd-greatest, gcd-pos}
 
 -- it is a multiple of the first
 pub lcm-left : (a b : ℕ) → a ∣ lcm a b
@@ -60,10 +62,19 @@ lcm-least a b m l r = ⊎-elim (λ e. rw e (dvd-zero _)) some (eq-zero-or-pos m)
         dvd-of-mul-dvd-mul-right {k = gcd a b} (lcm a b) (gcd-pos a b (pos-of-dvd-of-pos l h))
         (rw lcm-times (dvd-trans (a * b) g (gcd-scaled m a b h)))
 
--- it is 0 if the greatest common divisor is
-pub lcm-none : (a b : ℕ) → gcd a b ≡ 0 → lcm a b ≡ 0
+-- it is 0 if the second is
+pub lcm-none : (a b : ℕ) → b ≡ 0 → lcm a b ≡ 0
 unfolding lcm
-lcm-none a b e = rw (e, div-zero, zero-mul)
+lcm-none a b e = rw (e, mul-zero)
+
+-- it is the first if the second divides that
+pub lcm-whole : (a b : ℕ) → a % b ≡ 0 → lcm a b ≡ a
+lcm-whole a b e = dvd-antisymm (lcm-least a b a (dvd-refl a) (dvd-of-mod-eq-zero b e)) (lcm-left a b)
+
+-- it is the first by the divisor of the second and what is left of the first by it, times the second
+pub lcm-step : (a b : ℕ) → 0 < b → lcm a b ≡ a / gcd b (a % b) * b
+unfolding lcm
+lcm-step a b h = rw (gcd-step a b h)
 
 -- it is positive if both numbers are
 pub lcm-pos : (a b : ℕ) → 0 < a → 0 < b → 0 < lcm a b

@@ -16,13 +16,17 @@ pub fn gcd(a: u32, b: u32) -> u32
     x
 }
 
-// The least common multiple, which may need more than 32 bits.
+// The least common multiple, which may need more than 32 bits; a itself where b divides it.
 pub fn lcm(a: u32, b: u32) -> u64
     ensures { λ r. ⌜ r ≡ lcmOf a b ⌝ }
 {
-    let g = gcd(a, b);
-    if g == 0 {
+    if b == 0 {
         return 0;
     }
+    let r = a % b;
+    if r == 0 {
+        return a as u64;
+    }
+    let g = gcd(b, r);
     (a / g) as u64 * b as u64
 }
