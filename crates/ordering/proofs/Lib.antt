@@ -1,3 +1,4 @@
 pub mod Place
 pub mod Picks
 pub mod Stored
+pub mod Counted
