@@ -35,8 +35,41 @@ pub fn put_text(buf: &mut [u8], at: usize, text: &[u8]) -> usize
     next
 }
 
-// A number in decimal.
-pub fn put_number(buf: &mut [u8], at: usize, n: u64) -> usize
+// How many digits a number has.
+fn digits_of(n: u64) -> usize
+    ensures { λ r. ⌜ r ≡ length (decimalOf n) ⌝ }
+{
+    let mut left = n;
+    let mut count = 1;
+    while 10 <= left {
+        left = left / 10;
+        count += 1;
+    }
+    count
+}
+
+// A number in decimal where its digits fit, the last digit first.
+fn put_digits(buf: &mut [u8], at: usize, n: u64, count: usize) -> usize
+    requires { ⌜ count ≡ length (decimalOf n) ⌝ }
+    requires { ⌜ at + count ≤ length (now buf) ⌝ }
+    ensures { λ r. ⌜ Wrote (now (buf .entry)) at (decimalOf n) (now (buf .exit)) r ⌝ }
+{
+    let next = at + count;
+    let mut rest = n;
+    let mut i = next - 1;
+    while rest >= 10 {
+        let digit = 48 + (rest % 10) as u8;
+        buf[i] = digit;
+        rest = rest / 10;
+        i -= 1;
+    }
+    let digit = 48 + rest as u8;
+    buf[i] = digit;
+    next
+}
+
+// A number in decimal, cut where the buffer ends.
+fn put_cut(buf: &mut [u8], at: usize, n: u64) -> usize
     requires { ⌜ at + 20 ≤ placeLimit ⌝ }
     ensures { λ r. ⌜ Wrote (now (buf .entry)) at (decimalOf n) (now (buf .exit)) r ⌝ }
     ensures { λ r. ⌜ r ≤ at + 20 ⌝ }
@@ -44,8 +77,22 @@ pub fn put_number(buf: &mut [u8], at: usize, n: u64) -> usize
     if n < 10 {
         put_byte(buf, at, 48 + n as u8)
     } else {
-        let next = put_number(buf, at, n / 10);
+        let next = put_cut(buf, at, n / 10);
         put_byte(buf, next, 48 + (n % 10) as u8)
+    }
+}
+
+// A number in decimal.
+pub fn put_number(buf: &mut [u8], at: usize, n: u64) -> usize
+    requires { ⌜ at + 20 ≤ placeLimit ⌝ }
+    ensures { λ r. ⌜ Wrote (now (buf .entry)) at (decimalOf n) (now (buf .exit)) r ⌝ }
+    ensures { λ r. ⌜ r ≤ at + 20 ⌝ }
+{
+    let count = digits_of(n);
+    if at + count <= buf.len() {
+        put_digits(buf, at, n, count)
+    } else {
+        put_cut(buf, at, n)
     }
 }
 

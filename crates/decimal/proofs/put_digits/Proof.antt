@@ -1,0 +1,101 @@
+-- `decimal::put_digits` meets its contract: to store what is left gives the same buffer.
+use borrow.Author.Needs.{needs}
+use Prim.Native.Nat.{_+_, _/_, _<_}
+use native.Mathlib.Omega.{arith}
+use mathlib.Core.Path.{_≡_, _∙_, refl}
+use lib.ListN.{length, length-set}
+use lib.Seq.{sets}
+use Rattle.decimal.specs.Decimal.{decimalOf}
+use Rattle.decimal.proofs.Digits.{digit-more, some-digit, last-first, first-last}
+use Rattle.decimal.proofs.put_digits.Statement.{statement}
+use Rattle.decimal.proofs.put_digits.Tie as tie
+
+abbrev Inv-loop : tie.InvT-loop
+Inv-loop buf₀ at n count next rest₀ i₀ buf rest i =
+    (i + 1 ≡ at + length (decimalOf rest)) × (i < length buf₀) × (length buf ≡ length buf₀) × (sets buf at (decimalOf rest) ≡ sets buf₀ at (decimalOf n))
+
+abbrev μ-loop : tie.MeasureT-loop
+μ-loop buf₀ at n count next rest₀ i₀ buf rest i = rest
+
+add-next : tie.Need-add-next Inv-loop μ-loop
+add-next c = search needs
+
+sub-i : tie.Need-sub-i Inv-loop μ-loop
+sub-i c = omega (arith, some-digit (c .args .n), c .pre .0)
+
+loop-holds : tie.Need-loop-holds Inv-loop μ-loop
+loop-holds c =
+    let s = some-digit (c .args .n) in
+    (omega (arith, s), omega (arith, s), refl, refl)
+
+cast-digit : tie.Need-cast-digit Inv-loop μ-loop
+cast-digit c = search needs
+
+add-digit : tie.Need-add-digit Inv-loop μ-loop
+add-digit c = search needs
+
+slice-write-buf : tie.Need-slice-write-buf Inv-loop μ-loop
+slice-write-buf c = search needs
+
+sub-i-2 : tie.Need-sub-i-2 Inv-loop μ-loop
+sub-i-2 c =
+    let m = c .before .loop .rest in
+    omega (arith, digit-more m (c .loop-test .taken), some-digit (m / 10))
+
+loop-less : tie.Need-loop-less Inv-loop μ-loop
+loop-less c = search needs
+
+loop-again : tie.Need-loop-again Inv-loop μ-loop
+loop-again c =
+    let l = c .before .loop in
+    let s = c .before .before in
+    let h = c .loop-test .taken in
+    let g = digit-more (l .rest) h in
+    let p = some-digit (l .rest / 10) in (
+      omega (arith, g, p),
+      omega (arith, g, p),
+      length-set (l .buf) (l .i) _ ∙ l .inv .2,
+      last-first (l .buf) (s .args .at) (l .rest) (l .i) h (l .inv .0) ∙ l .inv .3,
+    )
+
+cast-digit-2 : tie.Need-cast-digit-2 Inv-loop μ-loop
+cast-digit-2 c = search needs
+
+add-digit-2 : tie.Need-add-digit-2 Inv-loop μ-loop
+add-digit-2 c = search needs
+
+slice-write-buf-2 : tie.Need-slice-write-buf-2 Inv-loop μ-loop
+slice-write-buf-2 c = search needs
+
+same-length : tie.Need-same-length Inv-loop μ-loop
+same-length c = search needs
+
+returns : tie.Need-returns Inv-loop μ-loop
+returns c =
+    let l = c .before .loop in
+    let s = c .before .before in
+    record {
+      bytes = first-last (l .buf) (s .args .at) (l .rest) (l .i) (c .loop-test .left) (l .inv .0) ∙ l .inv .3;
+      end = omega arith;
+    }
+
+pub put-digits-spec : {M : Type 1} → statement M
+put-digits-spec =
+    tie.close
+    (tie.spec
+    Inv-loop
+    μ-loop
+    add-next
+    sub-i
+    loop-holds
+    cast-digit
+    add-digit
+    slice-write-buf
+    sub-i-2
+    loop-less
+    loop-again
+    cast-digit-2
+    add-digit-2
+    slice-write-buf-2
+    same-length
+    returns)
