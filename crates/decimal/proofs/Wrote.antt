@@ -1,11 +1,12 @@
 -- Laws of what a writer did.
-use Prim.Native.Nat.{ℕ, zero, suc, _+_, _≤_}
+use Prim.Native.Nat.{ℕ, zero, suc, _+_, _≤_, _<_}
 use mathlib.Core.Path.{_≡_, refl, sym, ap, _∙_, subst}
 use mathlib.Core.List.{List, [], _∷_, _++_}
 use native.Mathlib.Nat.{add-zero, add-suc, suc-add, add-assoc}
+use native.Mathlib.Numerals.{add-one}
 use native.Mathlib.Omega.{arith}
-use lib.ListN.{length, drop, length-append}
-use lib.Seq.{sets, sets-eq, length-sets}
+use lib.ListN.{length, getD, set, take, drop, length-append}
+use lib.Seq.{sets, sets-eq, length-sets, take-suc, take-length}
 use Rattle.decimal.specs.Wrote.{Wrote}
 
 -- two runs of stores, the second right after the first, are one
@@ -33,6 +34,19 @@ kept {a} {b} {i} {k} {xs} w = ap length (w .bytes) ∙ length-sets a i xs
 -- the same under another account of the text
 pub recast : {a b : List ℕ} {i j : ℕ} {xs ys : List ℕ} → xs ≡ ys → Wrote a i xs b j → Wrote a i ys b j
 recast {a} {b} {i} {j} e w = subst (λ (t : List ℕ). Wrote a i t b j) e w
+
+-- one byte was stored
+pub stored : (l : List ℕ) (i v : ℕ) → Wrote l i (v ∷ []) (set l i v) (i + 1)
+stored l i v = record { bytes = refl; end = refl }
+
+-- the first i bytes of a text, and the next
+pub byte-more : {a b d : List ℕ} {at j k : ℕ} (xs : List ℕ) (i : ℕ) → i < length xs → Wrote a at (take i xs) b j → Wrote b j (getD xs i 0 ∷ []) d k
+    → Wrote a at (take (i + 1) xs) d k
+byte-more xs i h p q = recast (sym (take-suc xs i 0 h) ∙ ap (λ (k : ℕ). take k xs) (sym (add-one i))) (then p q)
+
+-- as many bytes as a text has
+pub every-byte : {a b : List ℕ} {at k : ℕ} (xs : List ℕ) (i : ℕ) → i ≡ length xs → Wrote a at (take i xs) b k → Wrote a at xs b k
+every-byte xs i e w = recast (ap (λ (k : ℕ). take k xs) e ∙ take-length xs) w
 
 -- a text that fits, written from the start: the buffer is the text and then what it was
 pub whole : {a b : List ℕ} {k : ℕ} {xs : List ℕ} → Wrote a 0 xs b k → length xs ≤ length a → b ≡ xs ++ drop (length xs) a

@@ -20,11 +20,30 @@ pub fn put_byte(buf: &mut [u8], at: usize, b: u8) -> usize
     next
 }
 
+// A text that fits.
+fn put_whole(buf: &mut [u8], at: usize, text: &[u8]) -> usize
+    requires { ⌜ at + length (now text) ≤ length (now buf) ⌝ }
+    ensures { λ r. ⌜ Wrote (now (buf .entry)) at (now (text .entry)) (now (buf .exit)) r ⌝ }
+{
+    let mut next = at;
+    let mut i = 0;
+    while i < text.len() {
+        let b = text[i];
+        buf[next] = b;
+        next += 1;
+        i += 1;
+    }
+    next
+}
+
 // A text.
 pub fn put_text(buf: &mut [u8], at: usize, text: &[u8]) -> usize
     requires { ⌜ at + length (now text) ≤ placeLimit ⌝ }
     ensures { λ r. ⌜ Wrote (now (buf .entry)) at (now (text .entry)) (now (buf .exit)) r ⌝ }
 {
+    if at + text.len() <= buf.len() {
+        return put_whole(buf, at, text);
+    }
     let mut next = at;
     let mut i = 0;
     while i < text.len() {
