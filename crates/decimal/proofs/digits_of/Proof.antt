@@ -26,10 +26,10 @@ loop-less : tie.Need-loop-less Inv-loop μ-loop
 loop-less c = search needs
 
 loop-again : tie.Need-loop-again Inv-loop μ-loop
-loop-again c = omega (arith, digit-more (c .before .loop .left) (c .loop-test .taken))
+loop-again c = omega (arith, digit-more (c .before .loop .left) (omega arith))
 
 returns : tie.Need-returns Inv-loop μ-loop
-returns c = omega (arith, one-digit (c .before .loop .left) (c .loop-test .left))
+returns c = omega (arith, one-digit (c .before .loop .left) (omega arith))
 
 pub digits-of-spec : {M : Type 1} → statement M
 digits-of-spec =

@@ -1,6 +1,6 @@
 -- `decimal::put_digits` meets its contract: to store what is left gives the same buffer.
 use borrow.Author.Needs.{needs}
-use Prim.Native.Nat.{_+_, _/_, _<_}
+use Prim.Native.Nat.{_+_, _/_, _≤_, _<_}
 use native.Mathlib.Omega.{arith}
 use mathlib.Core.Path.{_≡_, _∙_, refl}
 use lib.ListN.{length, length-set}
@@ -40,7 +40,7 @@ slice-write-buf c = search needs
 sub-i-2 : tie.Need-sub-i-2 Inv-loop μ-loop
 sub-i-2 c =
     let m = c .before .loop .rest in
-    omega (arith, digit-more m (c .loop-test .taken), some-digit (m / 10))
+    omega (arith, digit-more m (omega arith), some-digit (m / 10))
 
 loop-less : tie.Need-loop-less Inv-loop μ-loop
 loop-less c = search needs
@@ -49,7 +49,7 @@ loop-again : tie.Need-loop-again Inv-loop μ-loop
 loop-again c =
     let l = c .before .loop in
     let s = c .before .before in
-    let h = c .loop-test .taken in
+    let h : 10 ≤ l .rest = omega arith in
     let g = digit-more (l .rest) h in
     let p = some-digit (l .rest / 10) in (
       omega (arith, g, p),
@@ -75,7 +75,7 @@ returns c =
     let l = c .before .loop in
     let s = c .before .before in
     record {
-      bytes = first-last (l .buf) (s .args .at) (l .rest) (l .i) (c .loop-test .left) (l .inv .0) ∙ l .inv .3;
+      bytes = first-last (l .buf) (s .args .at) (l .rest) (l .i) (omega arith) (l .inv .0) ∙ l .inv .3;
       end = omega arith;
     }
 
