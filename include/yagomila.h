@@ -10,7 +10,8 @@
  *   same time in several threads, as long as none writes what another reads.
  * - A pointer may be null where its length is 0. Otherwise it points to as many bytes as its length says. `table` and
  *   `buf` must not overlap.
- * - A call needs stack: 42 KB were measured, and YAGOMILA_STACK_MAX bytes are enough.
+ * - A call needs stack: 42 KB were measured. The proofs say nothing of the stack; YAGOMILA_STACK_MAX is what was
+ *   measured and half as much again.
  *
  * Link with libhost.a, which is for x86-64 Linux and needs memcpy, memset, memmove and memcmp alone.
  */
@@ -43,7 +44,7 @@ extern "C" {
 #define YAGOMILA_TASK_BYTES 8
 /* A buffer of this many bytes is enough for the listing of any table that is taken. */
 #define YAGOMILA_LISTING_MAX 15960
-/* A stack with this many free bytes is enough for a call. */
+/* Free bytes of stack to have for a call: measured, not proved. */
 #define YAGOMILA_STACK_MAX 65536
 
 /*
