@@ -5,19 +5,18 @@ use mathlib.Core.Bool.{Bool, true, false, cond, _&&_, _||_}
 use native.Mathlib.Numerals.{add-one}
 use native.Mathlib.Omega.{arith}
 use lib.Dec.{ltb, eqb}
-use borrow.Author.Tests.{eq-eqb, ne-eqb}
+use borrow.Author.Tests.{eq-eqb}
 use Rattle.units.specs.Limits.{tasksLimit}
-use Rattle.units.specs.Units.{ticks}
 use Rattle.lists.proofs.Tests.{by-cases}
 use Rattle.planning.specs.declared.Line.{Line}
 use Rattle.state.specs.declared.State.{State}
 use Rattle.state.specs.Key.{deadlineOf, waits, keyOf}
 use Rattle.dispatch.specs.declared.Record.{Record}
 use Rattle.dispatch.specs.declared.look.Best.{Best}
-use Rattle.dispatch.specs.declared.look.Side.the-variants.{Upper, Lower}
-use Rattle.dispatch.specs.declared.look.Choice.the-variants.{Idle, Fixed, Mover}
+use Rattle.dispatch.specs.declared.look.Choice.{Choice}
+use Rattle.dispatch.specs.declared.look.Choice.the-variants.{Idle}
 use Rattle.dispatch.specs.Record.{lineAt, stateAt}
-use Rattle.dispatch.specs.Look.{better, bestOf, choiceFor, choiceOf}
+use Rattle.dispatch.specs.Look.{better, bestOf, choiceBy, choiceFor, choiceOf}
 
 module _ (b : Best) (i : ℕ) (ln : Line) (st : State) (k : ℕ) where
   -- a task that does not wait on the core changes nothing
@@ -58,19 +57,7 @@ module _ (r : Record) (k : ℕ) (b : Best) (e : b ≡ bestOf r k tasksLimit) whe
   unfolding choiceOf choiceFor
   choice-idle z = rw (← e, eq-eqb (b .task) 0 z)
 
-  module _ (some : b .task ≡ 0 → ⊥) where
-    -- an upper mover
-    pub choice-upper : b .key ≡ 0 → Mover (b .task) (ticks (deadlineOf (stateAt r (b .task - 1)))) Upper ≡ choiceOf r k
-    unfolding choiceOf choiceFor
-    choice-upper z = rw (← e, ne-eqb (b .task) 0 some, eq-eqb (b .key) 0 z)
-
-    module _ (not-upper : b .key ≡ 0 → ⊥) where
-      -- a lower mover
-      pub choice-lower : b .key ≡ 1 → Mover (b .task) (ticks (deadlineOf (stateAt r (b .task - 1)))) Lower ≡ choiceOf r k
-      unfolding choiceOf choiceFor
-      choice-lower z = rw (← e, ne-eqb (b .task) 0 some, ne-eqb (b .key) 0 not-upper, eq-eqb (b .key) 1 z)
-
-      -- a fixed task
-      pub choice-fixed : (b .key ≡ 1 → ⊥) → Fixed (b .task) (ticks (deadlineOf (stateAt r (b .task - 1)))) ≡ choiceOf r k
-      unfolding choiceOf choiceFor
-      choice-fixed z = rw (← e, ne-eqb (b .task) 0 some, ne-eqb (b .key) 0 not-upper, ne-eqb (b .key) 1 z)
+  -- the choice that the best task is
+  pub choice-by : (c : Choice) → c ≡ choiceBy b (deadlineOf (stateAt r (b .task - 1))) → c ≡ choiceOf r k
+  unfolding choiceOf choiceFor
+  choice-by c q = q ∙ ap (λ (x : Best). choiceBy x (deadlineOf (stateAt r (x .task - 1)))) e

@@ -12,36 +12,20 @@ use Rattle.dispatch.specs.declared.look.Looked.{Looked}
 use Rattle.dispatch.specs.declared.look.Choice.the-variants.{Idle}
 use Rattle.dispatch.specs.Record.{lineAt, stateAt}
 use Rattle.dispatch.specs.Sound.{soundOf}
-use Rattle.dispatch.specs.Refusals.{outside, timeNo, taskNo, lookNo, releaseNo, finishNo}
+use Rattle.dispatch.specs.Refusals.{firstNo, taskNo, lookNo, releaseNo, finishNo}
 use Rattle.dispatch.specs.Release.{takeRelease, refuseRelease, releaseOf}
 use Rattle.dispatch.specs.Finish.{takeFinish, refuseFinish, finishOf}
 use Rattle.dispatch.specs.Look.{choiceOf, atTime, lookOf}
 
--- 15, then a number out of range, then the time's
 module _ (r : Record) (i t : ℕ) where
-  pub task-unsound : soundOf r ≡ false → 15 ≡ taskNo r i t
+  -- what was tested first, of this record
+  pub task-first : (b : Bool) (n : ℕ) → b ≡ soundOf r → n ≡ firstNo b 7 (r .plan .count) i (r .clock .0) t → n ≡ taskNo r i t
   unfolding taskNo
-  task-unsound e = rw e
+  task-first b n e q = rw e at q
 
-  pub task-outside : soundOf r ≡ true → outside (r .plan .count) i ≡ true → 7 ≡ taskNo r i t
-  unfolding taskNo
-  task-outside e o = rw (e, o)
-
-  pub task-time : soundOf r ≡ true → outside (r .plan .count) i ≡ false → (n : ℕ) → n ≡ timeNo r t → n ≡ taskNo r i t
-  unfolding taskNo
-  task-time e o n q = rw (e, o) q
-
-  pub look-unsound : soundOf r ≡ false → 15 ≡ lookNo r i t
+  pub look-first : (b : Bool) (n : ℕ) → b ≡ soundOf r → n ≡ firstNo b 13 (r .plan .cores) i (r .clock .0) t → n ≡ lookNo r i t
   unfolding lookNo
-  look-unsound e = rw e
-
-  pub look-outside : soundOf r ≡ true → outside (r .plan .cores) i ≡ true → 13 ≡ lookNo r i t
-  unfolding lookNo
-  look-outside e o = rw (e, o)
-
-  pub look-time : soundOf r ≡ true → outside (r .plan .cores) i ≡ false → (n : ℕ) → n ≡ timeNo r t → n ≡ lookNo r i t
-  unfolding lookNo
-  look-time e o n q = rw (e, o) q
+  look-first b n e q = rw e at q
 
   -- the task's first, then a release's or a finish's own
   module _ (n : ℕ) (q : n ≡ taskNo r i t) where

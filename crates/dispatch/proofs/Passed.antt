@@ -38,17 +38,17 @@ not-false false e = sym e
 module _ (r : Record) (ok : soundOf r ≡ true) where
   pub clock-in : r .clock .0 ≤ clockLimit
   unfolding soundOf
-  clock-in = leb-true (r .clock .0) clockLimit (and-left (clockIn r) (planSound (r .plan)) (and-left (clockIn r && planSound (r .plan)) (allBelow tasksLimit (stateOk r)) ok))
+  clock-in = leb-true (r .clock .0) clockLimit (and-left (clockIn r) (planSound (r .plan)) (and-left (clockIn r && planSound (r .plan)) (allBelow tasksLimit (stateOk (r .plan) (r .states))) ok))
 
   pub plan-sound : planSound (r .plan) ≡ true
   unfolding soundOf
-  plan-sound = and-right (clockIn r) (planSound (r .plan)) (and-left (clockIn r && planSound (r .plan)) (allBelow tasksLimit (stateOk r)) ok)
+  plan-sound = and-right (clockIn r) (planSound (r .plan)) (and-left (clockIn r && planSound (r .plan)) (allBelow tasksLimit (stateOk (r .plan) (r .states))) ok)
 
   pub state-sound : (i : ℕ) → i < r .plan .count → stateSound (lineAt r i) (stateAt r i) ≡ true
   unfolding soundOf
   state-sound i h =
       let few = tasks-few (r .plan) plan-sound in
-      let here : stateOk r i ≡ true = all-at tasksLimit i (stateOk r) (omega arith) (and-right (clockIn r && planSound (r .plan)) (allBelow tasksLimit (stateOk r)) ok) in
+      let here : stateOk (r .plan) (r .states) i ≡ true = all-at tasksLimit i (stateOk (r .plan) (r .states)) (omega arith) (and-right (clockIn r && planSound (r .plan)) (allBelow tasksLimit (stateOk (r .plan) (r .states))) ok) in
       sym (ap (λ (b : Bool). cond b (stateSound (lineAt r i) (stateAt r i)) (stateEmpty (stateAt r i))) (lt-ltb i (r .plan .count) h)) ∙ here
 
 -- the deadline of a task's oldest run is small
@@ -61,7 +61,7 @@ no-run : (r : Record) → soundOf r ≡ true → (i : ℕ) → r .plan .count �
 unfolding soundOf
 no-run r ok i h k =
     let st = stateAt r i in
-    let here : stateOk r i ≡ true = all-at tasksLimit i (stateOk r) k (and-right (clockIn r && planSound (r .plan)) (allBelow tasksLimit (stateOk r)) ok) in
+    let here : stateOk (r .plan) (r .states) i ≡ true = all-at tasksLimit i (stateOk (r .plan) (r .states)) k (and-right (clockIn r && planSound (r .plan)) (allBelow tasksLimit (stateOk (r .plan) (r .states))) ok) in
     let e : stateEmpty st ≡ true = sym (ap (λ (b : Bool). cond b (stateSound (lineAt r i) st) (stateEmpty st)) (le-ltb i (r .plan .count) h)) ∙ here in
     let a = eqb (sum (st .counts)) 0 && eqb (st .place) 0 && eqb (st .last .0) 0 && not (st .had) in
     eqb-true (st .live) 0 (and-right a (eqb (st .live) 0) (and-left (a && eqb (st .live) 0) (runsEmpty st) e))
@@ -78,7 +78,7 @@ inside : (n i : ℕ) → outside n i ≡ false → (0 < i) × (i ≤ n)
 inside n i e = (pos-of-ne-zero (eqb-false i 0 (or-false-left (eqb i 0) (ltb n i) e)), ltb-false n i (or-false-right (eqb i 0) (ltb n i) e))
 
 -- the time is in range and not behind the clock
-timely : (r : Record) (t : ℕ) → timeNo r t ≡ 0 → (t ≤ clockLimit) × (r .clock .0 ≤ t)
+timely : (r : Record) (t : ℕ) → timeNo (r .clock .0) t ≡ 0 → (t ≤ clockLimit) × (r .clock .0 ≤ t)
 timely r t e =
     let x = gate (ltb clockLimit t) 12 (cond (ltb t (r .clock .0)) 8 0) (omega arith) e in
     let y = gate (ltb t (r .clock .0)) 8 0 (omega arith) (x .1) in
@@ -97,8 +97,8 @@ pub record Passed (r : Record) (i t : ℕ) : Type 0 where
 pub passed : (r : Record) (i t : ℕ) → taskNo r i t ≡ 0 → Passed r i t
 unfolding taskNo
 passed r i t e =
-    let x = gate (not (soundOf r)) 15 (cond (outside (r .plan .count) i) 7 (timeNo r t)) (omega arith) e in
-    let y = gate (outside (r .plan .count) i) 7 (timeNo r t) (omega arith) (x .1) in
+    let x = gate (not (soundOf r)) 15 (cond (outside (r .plan .count) i) 7 (timeNo (r .clock .0) t)) (omega arith) e in
+    let y = gate (outside (r .plan .count) i) 7 (timeNo (r .clock .0) t) (omega arith) (x .1) in
     let ok = not-false (soundOf r) (x .0) in
     let n = inside (r .plan .count) i (y .0) in
     let m = timely r t (y .1) in
@@ -109,8 +109,8 @@ passed r i t e =
 pub look-passed : (r : Record) (k t : ℕ) → lookNo r k t ≡ 0 → (soundOf r ≡ true) × (0 < k) × (k ≤ coresLimit)
 unfolding lookNo
 look-passed r k t e =
-    let x = gate (not (soundOf r)) 15 (cond (outside (r .plan .cores) k) 13 (timeNo r t)) (omega arith) e in
-    let y = gate (outside (r .plan .cores) k) 13 (timeNo r t) (omega arith) (x .1) in
+    let x = gate (not (soundOf r)) 15 (cond (outside (r .plan .cores) k) 13 (timeNo (r .clock .0) t)) (omega arith) e in
+    let y = gate (outside (r .plan .cores) k) 13 (timeNo (r .clock .0) t) (omega arith) (x .1) in
     let ok = not-false (soundOf r) (x .0) in
     let n = inside (r .plan .cores) k (y .0) in
     let few = cores-few (r .plan) (plan-sound r ok) in

@@ -29,13 +29,17 @@ unfoldable pub bestOf : Record → ℕ → ℕ → Best
 bestOf r k zero = record { task = 0; key = 0 }
 bestOf r k (suc n) = better (bestOf r k n) (suc n) (lineAt r n) (stateAt r n) k
 
--- the choice: idle, a mover with its deadline, upper or lower, or a fixed task with its deadline
-unfoldable pub choiceFor : Record → Best → Choice
-choiceFor r b =
+-- the choice that the best task is, by its deadline: idle, an upper or a lower mover, or a fixed task
+abbrev pub choiceBy : Best → ℕ → Choice
+choiceBy b due =
     cond (eqb (b .task) 0) Idle
-    (cond (eqb (b .key) 0) (Mover (b .task) (ticks (deadlineOf (stateAt r (b .task - 1)))) Upper)
-    (cond (eqb (b .key) 1) (Mover (b .task) (ticks (deadlineOf (stateAt r (b .task - 1)))) Lower)
-    (Fixed (b .task) (ticks (deadlineOf (stateAt r (b .task - 1)))))))
+    (cond (eqb (b .key) 0) (Mover (b .task) (ticks due) Upper)
+    (cond (eqb (b .key) 1) (Mover (b .task) (ticks due) Lower)
+    (Fixed (b .task) (ticks due))))
+
+-- with the deadline of its oldest unfinished run
+unfoldable pub choiceFor : Record → Best → Choice
+choiceFor r b = choiceBy b (deadlineOf (stateAt r (b .task - 1)))
 
 -- core k's choice
 unfoldable pub choiceOf : Record → ℕ → Choice

@@ -13,16 +13,20 @@ abbrev pub outside : ℕ → ℕ → Bool
 outside n i = eqb i 0 || ltb n i
 
 -- 12: the call's time is above the clock's limit; 8: it is below the stored clock
-abbrev pub timeNo : Record → ℕ → ℕ
-timeNo r t = cond (ltb clockLimit t) 12 (cond (ltb t (r .clock .0)) 8 0)
+abbrev pub timeNo : ℕ → ℕ → ℕ
+timeNo clock t = cond (ltb clockLimit t) 12 (cond (ltb t clock) 8 0)
 
--- what calls for a task test first: 15, 7, 12, 8
+-- what each call tests first: 15, the number for a wrong task or core i, 12, 8
+abbrev pub firstNo : Bool → ℕ → ℕ → ℕ → ℕ → ℕ → ℕ
+firstNo sound wrong n i clock t = cond (not sound) 15 (cond (outside n i) wrong (timeNo clock t))
+
+-- for a task: 15, 7, 12, 8
 unfoldable pub taskNo : Record → ℕ → ℕ → ℕ
-taskNo r i t = cond (not (soundOf r)) 15 (cond (outside (r .plan .count) i) 7 (timeNo r t))
+taskNo r i t = firstNo (soundOf r) 7 (r .plan .count) i (r .clock .0) t
 
--- what a look tests: 15, 13, 12, 8
+-- a look, for a core: 15, 13, 12, 8
 unfoldable pub lookNo : Record → ℕ → ℕ → ℕ
-lookNo r k t = cond (not (soundOf r)) 15 (cond (outside (r .plan .cores) k) 13 (timeNo r t))
+lookNo r k t = firstNo (soundOf r) 13 (r .plan .cores) k (r .clock .0) t
 
 -- the first that applies to a release: 15, 7, 12, 8, 9, 10
 unfoldable pub releaseNo : Record → ℕ → ℕ → ℕ

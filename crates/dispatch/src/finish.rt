@@ -1,9 +1,9 @@
 // Finish.
 use crate::Record;
+use crate::refusals::first_no;
 use units::ticks::Ticks;
 ghost use mathlib.Core.Path.{_≡_};
-ghost use Rattle.dispatch.specs.Refusals.{finishNo};
-ghost use Rattle.dispatch.specs.Finish.{takeFinish, finishOf};
+ghost use Rattle.dispatch.specs.Finish.{finishOf};
 
 // The refusal, or 0 with the time less the deadline; and the record after the call.
 pub struct Finished {
@@ -13,38 +13,31 @@ pub struct Finished {
 }
 
 impl Record {
-    // An accepted finish.
-    fn take_finish(self, task: usize, time: Ticks) -> Finished
-        requires { ⌜ finishNo self task (time .0) ≡ 0 ⌝ }
-        ensures { λ r. ⌜ r ≡ takeFinish self task (time .0) ⌝ }
-    {
-        let i = task - 1;
-        let state = self.states[i];
-        let oldest = state.runs[0];
-        let late = time.0 as i64 - oldest.deadline.0 as i64;
-        let after = state.without_run();
-        let mut next = self;
-        next.states[i] = after;
-        next.clock = time;
-        Finished {
-            refusal: 0,
-            late: late,
-            next: next,
-        }
-    }
-
     // The time less the deadline of the task's oldest unfinished run, which is ended; or the refusal, and the same record.
-    pub fn finish(self, task: usize, time: Ticks) -> Finished
+    // One way out: each would copy the record.
+    pub fn finish(mut self, task: usize, time: Ticks) -> Finished
         ensures { λ r. ⌜ r ≡ finishOf self task (time .0) ⌝ }
     {
-        let no = self.finish_no(task, time);
-        if no != 0 {
-            return Finished {
-                refusal: no,
-                late: 0,
-                next: self,
-            };
+        let clock = self.clock;
+        let sound = self.sound();
+        let mut no = first_no(sound, 7, self.plan.count, task, clock, time);
+        let mut late: i64 = 0;
+        if no == 0 {
+            let i = task - 1;
+            let state = self.states[i];
+            no = state.finish_own();
+            if no == 0 {
+                let oldest = state.runs[0];
+                late = time.0 as i64 - oldest.deadline.0 as i64;
+                let after = state.without_run();
+                self.states[i] = after;
+                self.clock = time;
+            }
         }
-        self.take_finish(task, time)
+        Finished {
+            refusal: no,
+            late: late,
+            next: self,
+        }
     }
 }

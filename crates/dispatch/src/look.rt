@@ -1,5 +1,6 @@
 // Look.
 use crate::Record;
+use crate::refusals::first_no;
 use planning::Line;
 use state::State;
 use units::limits::TASKS;
@@ -7,10 +8,9 @@ use units::ticks::Ticks;
 ghost use mathlib.Core.Path.{_≡_};
 ghost use mathlib.Core.Bool.{true};
 ghost use Prim.Native.Nat.{_+_, _<_, _≤_};
-ghost use Rattle.units.specs.Limits.{coresLimit, tasksLimit, periodLimit, clockLimit};
+ghost use Rattle.units.specs.Limits.{coresLimit, periodLimit, clockLimit};
 ghost use Rattle.state.specs.Key.{deadlineOf, waits};
-ghost use Rattle.dispatch.specs.Sound.{soundOf};
-ghost use Rattle.dispatch.specs.Look.{better as betterOf, bestOf, choiceOf, lookOf};
+ghost use Rattle.dispatch.specs.Look.{better as betterOf, choiceBy, lookOf};
 
 // Where a mover stands on a core: lower on its first core, upper on any other.
 pub enum Side {
@@ -56,66 +56,56 @@ fn better(best: Best, task: usize, line: Line, state: State, core: usize) -> Bes
     best
 }
 
-impl Record {
-    // The best task for a core: the least key, the lowest task number at a tie.
-    fn best(self, core: usize) -> Best
-        requires { ⌜ (soundOf self ≡ true) × (0 < core) × (core ≤ coresLimit) ⌝ }
-        ensures { λ r. ⌜ r ≡ bestOf self core tasksLimit ⌝ }
+impl Best {
+    // The choice that it is, by its state.
+    fn choice(self, state: State) -> Choice
+        requires { ⌜ 0 < self .task ⌝ }
+        ensures { λ r. ⌜ r ≡ choiceBy self (deadlineOf state) ⌝ }
     {
-        let lines = self.plan.lines;
-        let mut best = Best { task: 0, key: 0 };
-        let mut i: usize = 0;
-        while i < TASKS {
-            let line = lines[i];
-            let state = self.states[i];
-            i += 1;
-            best = better(best, i, line, state, core);
-        }
-        best
-    }
-
-    // Core's choice.
-    fn choice(self, core: usize) -> Choice
-        requires { ⌜ (soundOf self ≡ true) × (0 < core) × (core ≤ coresLimit) ⌝ }
-        ensures { λ r. ⌜ r ≡ choiceOf self core ⌝ }
-    {
-        let best = self.best(core);
-        let task = best.task;
-        if task == 0 {
-            return Choice::Idle;
-        }
-        let i = task - 1;
-        let state = self.states[i];
+        let task = self.task;
         let run = state.runs[0];
         let deadline = run.deadline;
-        if best.key == 0 {
+        if self.key == 0 {
             return Choice::Mover(task, deadline, Side::Upper);
         }
-        if best.key == 1 {
+        if self.key == 1 {
             return Choice::Mover(task, deadline, Side::Lower);
         }
         Choice::Fixed(task, deadline)
     }
+}
 
+impl Record {
     // The core's choice; or the refusal, and the same record.
-    pub fn look(self, core: usize, time: Ticks) -> Looked
+    // One way out, and the loop here: a record that is handed on is copied.
+    pub fn look(mut self, core: usize, time: Ticks) -> Looked
         ensures { λ r. ⌜ r ≡ lookOf self core (time .0) ⌝ }
     {
-        let no = self.look_no(core, time);
-        if no != 0 {
-            return Looked {
-                refusal: no,
-                choice: Choice::Idle,
-                next: self,
-            };
+        let clock = self.clock;
+        let sound = self.sound();
+        let no = first_no(sound, 13, self.plan.cores, core, clock, time);
+        let mut choice = Choice::Idle;
+        if no == 0 {
+            let lines = self.plan.lines;
+            let mut best = Best { task: 0, key: 0 };
+            let mut i: usize = 0;
+            while i < TASKS {
+                let line = lines[i];
+                let state = self.states[i];
+                i += 1;
+                best = better(best, i, line, state, core);
+            }
+            if 0 < best.task {
+                let at = best.task - 1;
+                let state = self.states[at];
+                choice = best.choice(state);
+            }
+            self.clock = time;
         }
-        let choice = self.choice(core);
-        let mut next = self;
-        next.clock = time;
         Looked {
-            refusal: 0,
+            refusal: no,
             choice: choice,
-            next: next,
+            next: self,
         }
     }
 }

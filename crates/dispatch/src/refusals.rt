@@ -1,75 +1,25 @@
-// The first refusal that applies to a call.
-use crate::Record;
+// What each call tests first.
 use units::limits::CLOCK;
 use units::ticks::Ticks;
 ghost use mathlib.Core.Path.{_≡_};
-ghost use Rattle.dispatch.specs.Refusals.{timeNo, taskNo, lookNo, releaseNo, finishNo};
+ghost use Rattle.dispatch.specs.Refusals.{firstNo};
 
-impl Record {
-    // 12, then 8.
-    fn time_no(self, time: Ticks) -> u32
-        ensures { λ r. ⌜ r ≡ timeNo self (time .0) ⌝ }
-    {
-        if CLOCK < time.0 {
-            return 12;
-        }
-        if time.0 < self.clock.0 {
-            return 8;
-        }
-        0
+// The first refusal of 15, the number for a wrong task or core, not from 1 to n, 12 and 8.
+// Numbers, not the record: a record that is handed on is copied.
+pub fn first_no(sound: bool, wrong: u32, n: usize, i: usize, clock: Ticks, time: Ticks) -> u32
+    ensures { λ r. ⌜ r ≡ firstNo sound wrong n i (clock .0) (time .0) ⌝ }
+{
+    if !sound {
+        return 15;
     }
-
-    // 15, 7, 12, 8.
-    fn task_no(self, task: usize, time: Ticks) -> u32
-        ensures { λ r. ⌜ r ≡ taskNo self task (time .0) ⌝ }
-    {
-        if !self.sound() {
-            return 15;
-        }
-        if (task == 0) | (self.plan.count < task) {
-            return 7;
-        }
-        self.time_no(time)
+    if (i == 0) | (n < i) {
+        return wrong;
     }
-
-    // 15, 13, 12, 8.
-    pub fn look_no(self, core: usize, time: Ticks) -> u32
-        ensures { λ r. ⌜ r ≡ lookNo self core (time .0) ⌝ }
-    {
-        if !self.sound() {
-            return 15;
-        }
-        if (core == 0) | (self.plan.cores < core) {
-            return 13;
-        }
-        self.time_no(time)
+    if CLOCK < time.0 {
+        return 12;
     }
-
-    // A release's: 15, 7, 12, 8, 9, 10.
-    pub fn release_no(self, task: usize, time: Ticks) -> u32
-        ensures { λ r. ⌜ r ≡ releaseNo self task (time .0) ⌝ }
-    {
-        let first = self.task_no(task, time);
-        if first != 0 {
-            return first;
-        }
-        let i = task - 1;
-        let lines = self.plan.lines;
-        let line = lines[i];
-        let state = self.states[i];
-        state.release_own(line, time)
+    if time.0 < clock.0 {
+        return 8;
     }
-
-    // A finish's: 15, 7, 12, 8, 11.
-    pub fn finish_no(self, task: usize, time: Ticks) -> u32
-        ensures { λ r. ⌜ r ≡ finishNo self task (time .0) ⌝ }
-    {
-        let first = self.task_no(task, time);
-        if first != 0 {
-            return first;
-        }
-        let i = task - 1;
-        let state = self.states[i];
-        state.finish_own()
-    }
+    0
 }

@@ -1,6 +1,7 @@
 // Refusal 15: whether a record is sound, for any numbers whatever.
 use crate::Record;
 use planning::Line;
+use planning::Plan;
 use soundness::plan::plan_sound;
 use state::State;
 use units::limits::CLOCK;
@@ -25,26 +26,25 @@ fn state_ok(used: bool, line: Line, state: State) -> bool
     state.empty()
 }
 
-impl Record {
-    // Each task in use is sound, the others are empty.
-    fn states_sound(self) -> bool
-        requires { ⌜ planSound (self .plan) ≡ true ⌝ }
-        ensures { λ r. ⌜ r ≡ allBelow tasksLimit (stateOk self) ⌝ }
-    {
-        let count = self.plan.count;
-        let lines = self.plan.lines;
-        let mut i: usize = 0;
-        while i < TASKS {
-            let line = lines[i];
-            let state = self.states[i];
-            if !state_ok(i < count, line, state) {
-                return false;
-            }
-            i += 1;
+// Each task in use is sound, the others are empty.
+fn states_sound(plan: Plan, states: [State; TASKS]) -> bool
+    requires { ⌜ planSound plan ≡ true ⌝ }
+    ensures { λ r. ⌜ r ≡ allBelow tasksLimit (stateOk plan states) ⌝ }
+{
+    let count = plan.count;
+    let mut i: usize = 0;
+    while i < TASKS {
+        let line = plan.lines[i];
+        let state = states[i];
+        if !state_ok(i < count, line, state) {
+            return false;
         }
-        true
+        i += 1;
     }
+    true
+}
 
+impl Record {
     // A sound record.
     pub fn sound(self) -> bool
         ensures { λ r. ⌜ r ≡ soundOf self ⌝ }
@@ -56,6 +56,7 @@ impl Record {
         if !plan_sound(plan) {
             return false;
         }
-        self.states_sound()
+        let states = self.states;
+        states_sound(plan, states)
     }
 }

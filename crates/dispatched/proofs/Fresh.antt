@@ -28,7 +28,7 @@ module _ (pl : Plan) where
 
   module _ (long : PlanShaped pl) (s : planSound pl ≡ true) where
     -- and sound, or empty past the N tasks
-    fresh-ok : (i : ℕ) → i < tasksLimit → stateOk (recordOf pl) i ≡ true
+    fresh-ok : (i : ℕ) → i < tasksLimit → stateOk pl (recordOf pl .states) i ≡ true
     unfolding recordOf
     fresh-ok i h =
         rw (fresh-at i h)

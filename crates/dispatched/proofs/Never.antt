@@ -22,9 +22,9 @@ neither false m n h k e = k e
 
 module _ (r : Record) (g : Good r) where
   -- not where the number and the time are tested
-  number-15 : (n m i t : ℕ) → (m ≡ 15 → ⊥) → cond (outside n i) m (timeNo r t) ≡ 15 → ⊥
+  number-15 : (n m i t : ℕ) → (m ≡ 15 → ⊥) → cond (outside n i) m (timeNo (r .clock .0) t) ≡ 15 → ⊥
   number-15 n m i t h =
-      neither (outside n i) m (timeNo r t) h
+      neither (outside n i) m (timeNo (r .clock .0) t) h
       (neither (ltb clockLimit t) 12 (cond (ltb t (r .clock .0)) 8 0) (λ e. omega arith)
       (neither (ltb t (r .clock .0)) 8 0 (λ e. omega arith) (λ e. omega arith)))
 

@@ -27,10 +27,10 @@ pub record Passed (r : Record) (n i t : ℕ) : Type 0 where
   pub clock : r .clock .0 ≤ t
 
 -- 15, then 7 or 13, then 12, then 8
-passed : (r : Record) (n m i t : ℕ) → 0 < m → cond (not (soundOf r)) 15 (cond (outside n i) m (timeNo r t)) ≡ 0 → Passed r n i t
+passed : (r : Record) (n m i t : ℕ) → 0 < m → cond (not (soundOf r)) 15 (cond (outside n i) m (timeNo (r .clock .0) t)) ≡ 0 → Passed r n i t
 passed r n m i t h e =
-    let a = gate (not (soundOf r)) 15 (cond (outside n i) m (timeNo r t)) (omega arith) e in
-    let b = gate (outside n i) m (timeNo r t) h (a .1) in
+    let a = gate (not (soundOf r)) 15 (cond (outside n i) m (timeNo (r .clock .0) t)) (omega arith) e in
+    let b = gate (outside n i) m (timeNo (r .clock .0) t) h (a .1) in
     let c = gate (ltb clockLimit t) 12 (cond (ltb t (r .clock .0)) 8 0) (omega arith) (b .1) in
     let d = gate (ltb t (r .clock .0)) 8 0 (omega arith) (c .1) in
     record {

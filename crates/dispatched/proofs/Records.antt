@@ -30,7 +30,7 @@ use Rattle.dispatched.proofs.Facts.{Lined, lined}
 pub record Held (r : Record) : Type 0 where
   pub clock : r .clock .0 ≤ clockLimit
   pub plan : planSound (r .plan) ≡ true
-  pub states : (i : ℕ) → i < tasksLimit → stateOk r i ≡ true
+  pub states : (i : ℕ) → i < tasksLimit → stateOk (r .plan) (r .states) i ≡ true
 
 -- soundness says them
 pub held : (r : Record) → soundOf r ≡ true → Held r
@@ -38,12 +38,12 @@ unfolding soundOf
 held r e =
     let a = clockIn r in
     let b = planSound (r .plan) in
-    let c = allBelow tasksLimit (stateOk r) in
+    let c = allBelow tasksLimit (stateOk (r .plan) (r .states)) in
     let ab = and-left (a && b) c e in
     record {
       clock = leb-true (r .clock .0) clockLimit (and-left a b ab);
       plan = and-right a b ab;
-      states = λ i h. all-at tasksLimit i (stateOk r) h (and-right (a && b) c e);
+      states = λ i h. all-at tasksLimit i (stateOk (r .plan) (r .states)) h (and-right (a && b) c e);
     }
 
 -- and they say it
@@ -52,10 +52,10 @@ unfolding soundOf
 sound r h =
     let a = clockIn r in
     let b = planSound (r .plan) in
-    let c = allBelow tasksLimit (stateOk r) in
+    let c = allBelow tasksLimit (stateOk (r .plan) (r .states)) in
     and-true (a && b) c
     (and-true a b (le-leb (r .clock .0) clockLimit (h .clock)) (h .plan))
-    (all-from tasksLimit (stateOk r) (h .states))
+    (all-from tasksLimit (stateOk (r .plan) (r .states)) (h .states))
 
 module _ (r : Record) (g : Good r) where
   -- its numbers

@@ -1,22 +1,118 @@
-use Rattle.dispatch.proofs.Numbers.{finish-refused, finish-taken}
-use Rattle.dispatch.specs.Finish.{refuseFinish}
-use mathlib.Core.Path.{_≡_, refl, sym, ap, _∙_}
+use Rattle.dispatch.proofs.Passed.{Passed, passed, finish-passed}
+use Rattle.dispatch.proofs.Numbers.{task-first, finish-first, finish-own, finish-refused, finish-taken}
+use Rattle.dispatch.specs.Record.{stateAt, moved}
+use Rattle.dispatch.specs.Refusals.{taskNo, finishNo}
+use Rattle.dispatch.specs.Finish.{takeFinish, refuseFinish}
+use Rattle.state.specs.declared.State.{State}
+use Rattle.state.specs.Key.{deadlineOf}
+use Rattle.state.specs.Runs.{withoutRun}
+use Rattle.arith.proofs.Signed.{pos-fits, sub-fits, sub-is}
+use Rattle.units.specs.Limits.{clockLimit, periodLimit}
+use lib.IntN.{ℤ, subℕ}
+use native.Mathlib.Omega.{arith}
+use mathlib.Core.Path.{_≡_, sym, ap, ap₂, _∙_}
+use Prim.Native.Nat.{ℕ, _+_, _-_, _≤_, _<_}
 use borrow.Author.Needs.{needs}
 use Rattle.dispatch.proofs.Record.finish.Statement.{statement}
 use Rattle.dispatch.proofs.Record.finish.Tie as tie
 
-finish-no-requires : tie.Need-finish-no-requires
-finish-no-requires c κs = search needs
+sound-requires : tie.Need-sound-requires
+sound-requires c κs = search needs
+
+first-no-requires : tie.Need-first-no-requires
+first-no-requires c κs = search needs
+
+-- what was tested first
+first : (c : tie.After-first-no) → c .first-no .result ≡ taskNo (c .before .before .before .args .t1) (c .before .before .before .args .task) (c .before .before .before .args .time .0)
+first c = task-first (c .before .before .before .args .t1) (c .before .before .before .args .task) (c .before .before .before .args .time .0) (c .before .sound .result) (c .first-no .result) (c .before .sound .ensures) (c .first-no .ensures)
+
+-- what is known after that
+known : (c : tie.Then1) → Passed (c .before .before .before .before .args .t1) (c .before .before .before .before .args .task) (c .before .before .before .before .args .time .0)
+known c = passed (c .before .before .before .before .args .t1) (c .before .before .before .before .args .task) (c .before .before .before .before .args .time .0) (sym (first (c .before)) ∙ c .if1 .taken)
+
+-- the finish's number
+own : (c : tie.After-finish-own) → c .finish-own .result ≡ finishNo (c .before .before .before .before .before .before .args .t1) (c .before .before .before .before .before .before .args .task) (c .before .before .before .before .before .before .args .time .0)
+own c = finish-own (c .before .before .before .before .before .before .args .t1) (c .before .before .before .before .before .before .args .task) (c .before .before .before .before .before .before .args .time .0) (c .before .before .before .first-no .result) (first (c .before .before .before)) (c .before .before .if1 .taken) (c .finish-own .result) (c .finish-own .ensures)
+
+-- the run that is ended
+ended : (c : tie.Then2) → (0 < stateAt (c .before .before .before .before .before .before .before .args .t1) (c .before .before .before .before .before .before .before .args .task - 1) .live) × (deadlineOf (stateAt (c .before .before .before .before .before .before .before .args .t1) (c .before .before .before .before .before .before .before .args .task - 1)) ≤ clockLimit + periodLimit)
+ended c =
+    let x = finish-passed (c .before .before .before .before .before .before .before .args .t1) (c .before .before .before .before .before .before .before .args .task) (c .before .before .before .before .before .before .before .args .time .0) (sym (own (c .before)) ∙ c .if2 .taken) in
+    (x .1, x .2)
+
+sub-i : tie.Need-sub-i
+sub-i c = omega (arith, known c .from)
+
+mul-state : tie.Need-mul-state
+mul-state c = omega (arith, known c .below)
+
+element-copy-out-state : tie.Need-element-copy-out-state
+element-copy-out-state c = omega (arith, known c .below)
+
+finish-own-requires : tie.Need-finish-own-requires
+finish-own-requires c κs = search needs
+
+element-copy-out-oldest : tie.Need-element-copy-out-oldest
+element-copy-out-oldest c = search needs
+
+cast-late : tie.Need-cast-late
+cast-late c = pos-fits (c .before .before .before .before .before .before .before .before .before .args .time .0) (omega (arith, known (c .before .before .before .before .before) .time))
+
+cast-late-2 : tie.Need-cast-late-2
+cast-late-2 c = pos-fits (deadlineOf (stateAt (c .before .before .before .before .before .before .before .before .before .before .args .t1) (c .before .before .before .before .before .before .before .before .before .before .args .task - 1))) (omega (arith, ended (c .before .before .before) .1))
+
+sub-late : tie.Need-sub-late
+sub-late c =
+    let s = c .before .before .before .before .before .before .before .before .before .before .args in
+    sub-fits (s .time .0) (deadlineOf (stateAt (s .t1) (s .task - 1))) (omega (arith, known (c .before .before .before .before .before .before) .time)) (omega (arith, ended (c .before .before .before) .1))
+
+without-run-requires : tie.Need-without-run-requires
+without-run-requires c κs = ended (c .before .before .before) .0
+
+mul-after : tie.Need-mul-after
+mul-after c = omega (arith, known (c .before .before .before .before .before .before .before) .below)
+
+element-set-from-after : tie.Need-element-set-from-after
+element-set-from-after c = omega (arith, known (c .before .before .before .before .before .before .before) .below)
 
 returns : tie.Need-returns
-unfolding refuseFinish
-returns c = finish-refused (c .before .before .args .self) (c .before .before .args .task) (c .before .before .args .time .0) (c .before .finish-no .result) (c .before .finish-no .ensures) (c .if1 .taken)
-
-take-finish-requires : tie.Need-take-finish-requires
-take-finish-requires c κs = sym (c .before .finish-no .ensures) ∙ c .if1 .left
+unfolding takeFinish
+returns c =
+    let s = c .before .before .before .before .before .before .before .before .before .before .before .args in
+    let st = stateAt (s .t1) (s .task - 1) in
+    let e = c .before .before .before .before .if2 .taken in
+    ap₂ (λ (n : ℕ) (z : ℤ). record { refusal = n; late = z; next = moved (s .t1) (s .task - 1) (c .without-run .result) (s .time .0) })
+    e (sub-is (s .time .0) (deadlineOf st) (omega (arith, known (c .before .before .before .before .before .before .before) .time)) (omega (arith, ended (c .before .before .before .before) .1)))
+    ∙ ap (λ (x : State). record { refusal = 0; late = subℕ (s .time .0) (deadlineOf st); next = moved (s .t1) (s .task - 1) x (s .time .0) }) (c .without-run .ensures)
+    ∙ finish-taken (s .t1) (s .task) (s .time .0) (sym (own (c .before .before .before .before .before)) ∙ e)
 
 returns-2 : tie.Need-returns-2
-returns-2 c = c .take-finish .ensures ∙ finish-taken (c .before .before .before .args .self) (c .before .before .before .args .task) (c .before .before .before .args .time .0) (sym (c .before .before .finish-no .ensures) ∙ c .before .if1 .left)
+unfolding refuseFinish
+returns-2 c = finish-refused (c .before .before .before .before .before .before .before .args .t1) (c .before .before .before .before .before .before .before .args .task) (c .before .before .before .before .before .before .before .args .time .0) (c .before .finish-own .result) (own (c .before)) (c .if2 .left)
+
+returns-3 : tie.Need-returns-3
+unfolding refuseFinish
+returns-3 c =
+    let n = c .before .first-no .result in
+    finish-refused (c .before .before .before .before .args .t1) (c .before .before .before .before .args .task) (c .before .before .before .before .args .time .0) n (finish-first (c .before .before .before .before .args .t1) (c .before .before .before .before .args .task) (c .before .before .before .before .args .time .0) n (first (c .before)) (c .if1 .left)) (c .if1 .left)
 
 pub finish-spec : {M : Type 1} → statement M
-finish-spec = tie.close (tie.spec finish-no-requires returns take-finish-requires returns-2)
+finish-spec =
+    tie.close
+    (tie.spec
+    sound-requires
+    first-no-requires
+    sub-i
+    mul-state
+    element-copy-out-state
+    finish-own-requires
+    element-copy-out-oldest
+    cast-late
+    cast-late-2
+    sub-late
+    without-run-requires
+    mul-after
+    element-set-from-after
+    returns
+    returns-2
+    returns-3)

@@ -1,22 +1,111 @@
-use Rattle.dispatch.proofs.Numbers.{release-refused, release-taken}
-use Rattle.dispatch.specs.Release.{refuseRelease}
-use mathlib.Core.Path.{_≡_, refl, sym, ap, _∙_}
+use Rattle.dispatch.proofs.Passed.{Passed, passed, release-passed, plan-sound, state-sound}
+use Rattle.dispatch.proofs.Numbers.{task-first, release-first, release-own, release-refused, release-taken}
+use Rattle.dispatch.specs.Record.{lineAt, stateAt, moved}
+use Rattle.dispatch.specs.Refusals.{taskNo, releaseNo}
+use Rattle.dispatch.specs.Release.{takeRelease, refuseRelease}
+use Rattle.state.specs.Runs.{takenRun}
+use Rattle.state.specs.declared.runs.Taken.{Taken}
+use Rattle.state.proofs.Facts.{facts}
+use Rattle.soundness.proofs.Facts.{period-small}
+use native.Mathlib.Omega.{arith}
+use mathlib.Core.Path.{_≡_, sym, ap₂, _∙_}
+use Prim.Native.Nat.{ℕ, _-_}
 use borrow.Author.Needs.{needs}
 use Rattle.dispatch.proofs.Record.release.Statement.{statement}
 use Rattle.dispatch.proofs.Record.release.Tie as tie
 
-release-no-requires : tie.Need-release-no-requires
-release-no-requires c κs = search needs
+sound-requires : tie.Need-sound-requires
+sound-requires c κs = search needs
+
+first-no-requires : tie.Need-first-no-requires
+first-no-requires c κs = search needs
+
+-- what was tested first
+first : (c : tie.After-first-no) → c .first-no .result ≡ taskNo (c .before .before .before .args .t1) (c .before .before .before .args .task) (c .before .before .before .args .time .0)
+first c =
+    let s = c .before .before .before .args in
+    task-first (s .t1) (s .task) (s .time .0) (c .before .sound .result) (c .first-no .result) (c .before .sound .ensures) (c .first-no .ensures)
+
+-- what is known after that
+known : (c : tie.Then1) → Passed (c .before .before .before .before .args .t1) (c .before .before .before .before .args .task) (c .before .before .before .before .args .time .0)
+known c = passed (c .before .before .before .before .args .t1) (c .before .before .before .before .args .task) (c .before .before .before .before .args .time .0) (sym (first (c .before)) ∙ c .if1 .taken)
+
+-- the release's number
+own : (c : tie.After-release-own) → c .release-own .result ≡ releaseNo (c .before .before .before .before .before .before .before .before .args .t1) (c .before .before .before .before .before .before .before .before .args .task) (c .before .before .before .before .before .before .before .before .args .time .0)
+own c =
+    let s = c .before .before .before .before .before .before .before .before .args in
+    release-own (s .t1) (s .task) (s .time .0) (c .before .before .before .before .before .first-no .result) (first (c .before .before .before .before .before)) (c .before .before .before .before .if1 .taken) (c .release-own .result) (c .release-own .ensures)
+
+sub-i : tie.Need-sub-i
+sub-i c = omega (arith, known c .from)
+
+mul-line : tie.Need-mul-line
+mul-line c = omega (arith, known (c .before) .below)
+
+array-copy-out-line : tie.Need-array-copy-out-line
+array-copy-out-line c = omega (arith, known (c .before) .below)
+
+mul-state : tie.Need-mul-state
+mul-state c = omega (arith, known (c .before .before) .below)
+
+element-copy-out-state : tie.Need-element-copy-out-state
+element-copy-out-state c = omega (arith, known (c .before .before) .below)
+
+release-own-requires : tie.Need-release-own-requires
+release-own-requires c κs =
+    let s = c .before .before .before .before .before .before .before .args in
+    let p = known (c .before .before .before) in
+    let i = s .task - 1 in (
+      facts (lineAt (s .t1) i) (stateAt (s .t1) i) (state-sound (s .t1) (p .sound) i (p .here)) .last,
+      period-small (s .t1 .plan) (plan-sound (s .t1) (p .sound)) i (p .here),
+    )
+
+with-run-requires : tie.Need-with-run-requires
+with-run-requires c κs = release-passed (c .before .before .before .before .before .before .before .before .before .args .t1) (c .before .before .before .before .before .before .before .before .before .args .task) (c .before .before .before .before .before .before .before .before .before .args .time .0) (sym (own (c .before)) ∙ c .if2 .taken) .1
+
+mul-after : tie.Need-mul-after
+mul-after c = omega (arith, known (c .before .before .before .before .before .before .before .before) .below)
+
+element-set-from-after : tie.Need-element-set-from-after
+element-set-from-after c = omega (arith, known (c .before .before .before .before .before .before .before .before) .below)
 
 returns : tie.Need-returns
-unfolding refuseRelease
-returns c = release-refused (c .before .before .args .self) (c .before .before .args .task) (c .before .before .args .time .0) (c .before .release-no .result) (c .before .release-no .ensures) (c .if1 .taken)
-
-take-release-requires : tie.Need-take-release-requires
-take-release-requires c κs = sym (c .before .release-no .ensures) ∙ c .if1 .left
+unfolding takeRelease takenRun
+returns c =
+    let s = c .before .before .before .before .before .before .before .before .before .before .before .before .args in
+    let e = c .before .before .before .if2 .taken in
+    let o = own (c .before .before .before .before) in
+    ap₂ (λ (n : ℕ) (x : Taken). record { refusal = n; core = x .core; deadline = x .deadline; next = moved (s .t1) (s .task - 1) (x .state) (s .time .0) }) e (c .before .before .with-run .ensures)
+    ∙ release-taken (s .t1) (s .task) (s .time .0) (sym o ∙ e)
 
 returns-2 : tie.Need-returns-2
-returns-2 c = c .take-release .ensures ∙ release-taken (c .before .before .before .args .self) (c .before .before .before .args .task) (c .before .before .before .args .time .0) (sym (c .before .before .release-no .ensures) ∙ c .before .if1 .left)
+unfolding refuseRelease
+returns-2 c =
+    let s = c .before .before .before .before .before .before .before .before .before .args in
+    release-refused (s .t1) (s .task) (s .time .0) (c .before .release-own .result) (own (c .before)) (c .if2 .left)
+
+returns-3 : tie.Need-returns-3
+unfolding refuseRelease
+returns-3 c =
+    let s = c .before .before .before .before .args in
+    let n = c .before .first-no .result in
+    release-refused (s .t1) (s .task) (s .time .0) n (release-first (s .t1) (s .task) (s .time .0) n (first (c .before)) (c .if1 .left)) (c .if1 .left)
 
 pub release-spec : {M : Type 1} → statement M
-release-spec = tie.close (tie.spec release-no-requires returns take-release-requires returns-2)
+release-spec =
+    tie.close
+    (tie.spec
+    sound-requires
+    first-no-requires
+    sub-i
+    mul-line
+    array-copy-out-line
+    mul-state
+    element-copy-out-state
+    release-own-requires
+    with-run-requires
+    mul-after
+    element-set-from-after
+    returns
+    returns-2
+    returns-3)

@@ -23,14 +23,15 @@ returns-2 c =
     sym (rw (le-leb (r .clock .0) clockLimit (c .before .before .before .if1 .left), e))
 
 states-sound-requires : tie.Need-states-sound-requires
-states-sound-requires c κs = sym (c .before .plan-sound .ensures) ∙ not-false (c .before .plan-sound .result) (c .if2 .left)
+states-sound-requires c κs = sym (c .before .before .plan-sound .ensures) ∙ not-false (c .before .before .plan-sound .result) (c .before .if2 .left)
 
 returns-3 : tie.Need-returns-3
 unfolding soundOf
 returns-3 c =
-    let r = c .before .before .before .before .before .before .args .self in
-    let e : planSound (r .plan) ≡ true = sym (c .before .before .plan-sound .ensures) ∙ not-false (c .before .before .plan-sound .result) (c .before .if2 .left) in
-    c .states-sound .ensures ∙ sym (rw (le-leb (r .clock .0) clockLimit (c .before .before .before .before .if1 .left), e))
+    let r = c .before .before .before .before .before .before .before .args .self in
+    let p = c .before .before .before .plan-sound in
+    let e : planSound (r .plan) ≡ true = sym (p .ensures) ∙ not-false (p .result) (c .before .before .if2 .left) in
+    c .states-sound .ensures ∙ sym (rw (le-leb (r .clock .0) clockLimit (c .before .before .before .before .before .if1 .left), e))
 
 pub sound-spec : {M : Type 1} → statement M
 sound-spec =

@@ -4,43 +4,45 @@ use Rattle.dispatch.specs.Sound.{stateOk}
 use Rattle.lists.proofs.Below.{all-none, all-more, all-fails}
 use Rattle.lists.specs.Below.{allBelow}
 use Rattle.units.specs.Limits.{tasksLimit}
-use borrow.Author.Needs.{needs}
 use native.Mathlib.Omega.{arith}
 use mathlib.Core.Bool.{true}
 use mathlib.Core.Path.{_≡_, refl, sym, ap, _∙_}
 use Prim.Native.Nat.{_-_, _≤_}
-use Rattle.dispatch.proofs.Record.states_sound.Statement.{statement}
-use Rattle.dispatch.proofs.Record.states_sound.Tie as tie
+use Rattle.dispatch.proofs.sound.states_sound.Statement.{statement}
+use Rattle.dispatch.proofs.sound.states_sound.Tie as tie
 
 abbrev Inv-loop : tie.InvT-loop
-Inv-loop self count lines i₀ i = (i ≤ tasksLimit) × (allBelow i (stateOk self) ≡ true)
+Inv-loop plan states count i₀ i = (i ≤ tasksLimit) × (allBelow i (stateOk plan states) ≡ true)
 
 abbrev μ-loop : tie.MeasureT-loop
-μ-loop self count lines i₀ i = tasksLimit - i
+μ-loop plan states count i₀ i = tasksLimit - i
 
 loop-holds : tie.Need-loop-holds Inv-loop μ-loop
-loop-holds c = (omega arith, all-none (stateOk (c .before .args .t1)))
+loop-holds c = (omega arith, all-none (stateOk (c .args .t1) (c .args .t2)))
 
 mul-line : tie.Need-mul-line Inv-loop μ-loop
 mul-line c = omega arith
 
-array-copy-out-line : tie.Need-array-copy-out-line Inv-loop μ-loop
-array-copy-out-line c = omega arith
+element-copy-out-line : tie.Need-element-copy-out-line Inv-loop μ-loop
+element-copy-out-line c = omega arith
 
 mul-state : tie.Need-mul-state Inv-loop μ-loop
 mul-state c = omega arith
 
-element-copy-out-state : tie.Need-element-copy-out-state Inv-loop μ-loop
-element-copy-out-state c = omega arith
+array-copy-out-state : tie.Need-array-copy-out-state Inv-loop μ-loop
+array-copy-out-state c = omega arith
 
 state-ok-requires : tie.Need-state-ok-requires Inv-loop μ-loop
-state-ok-requires c κs = λ u. period-small (c .before .before .before .before .before .args .t1 .plan) (c .before .before .before .before .before .pre) (c .before .before .before .loop .i) (ltb-true (c .before .before .before .loop .i) (c .before .before .before .before .before .args .t1 .plan .count) u)
+state-ok-requires c κs =
+    let s = c .before .before .before .before in
+    let i = c .before .before .before .loop .i in
+    λ u. period-small (s .args .t1) (s .pre) i (ltb-true i (s .args .t1 .count) u)
 
 returns : tie.Need-returns Inv-loop μ-loop
 returns c =
-    let r = c .before .before .before .before .before .before .before .args .t1 in
+    let s = c .before .before .before .before .before .before .args in
     let i = c .before .before .before .before .before .loop .i in
-    sym (all-fails tasksLimit i (stateOk r) (omega arith) (sym (c .before .state-ok .ensures) ∙ not-true (c .before .state-ok .result) (c .if1 .taken)))
+    sym (all-fails tasksLimit i (stateOk (s .t1) (s .t2)) (omega arith) (sym (c .before .state-ok .ensures) ∙ not-true (c .before .state-ok .result) (c .if1 .taken)))
 
 add-i : tie.Need-add-i Inv-loop μ-loop
 add-i c = omega arith
@@ -50,9 +52,9 @@ loop-less c = omega arith
 
 loop-again : tie.Need-loop-again Inv-loop μ-loop
 loop-again c =
-    let r = c .before .before .before .before .before .before .before .args .t1 in
+    let s = c .before .before .before .before .before .before .args in
     let at = c .before .before .before .before .before .loop in
-    (omega arith, all-more (at .i) (stateOk r) (at .inv .1) (sym (c .before .state-ok .ensures) ∙ not-false (c .before .state-ok .result) (c .if1 .left)))
+    (omega arith, all-more (at .i) (stateOk (s .t1) (s .t2)) (at .inv .1) (sym (c .before .state-ok .ensures) ∙ not-false (c .before .state-ok .result) (c .if1 .left)))
 
 returns-2 : tie.Need-returns-2 Inv-loop μ-loop
 returns-2 c =
@@ -67,9 +69,9 @@ states-sound-spec =
     μ-loop
     loop-holds
     mul-line
-    array-copy-out-line
+    element-copy-out-line
     mul-state
-    element-copy-out-state
+    array-copy-out-state
     state-ok-requires
     returns
     add-i
