@@ -2,7 +2,7 @@
 pub mod finish;
 pub mod look;
 pub mod plan;
-pub mod refusals;
+mod refusals;
 pub mod release;
 pub mod sound;
 

@@ -81,55 +81,13 @@ pub fn add(a: u64, b: u64) -> u64 {
     std::num::wrapping_add_u64(a, b)
 }
 
-fn release(held: Record, number: usize, time: Ticks) -> Answered {
-    let answer = held.release(number, time);
-    let sum = add(
-        answer.refusal as u64,
-        add(answer.core as u64, answer.deadline.0),
-    );
-    let next = answer.next;
-    Answered {
-        next: next,
-        sum: sum,
-    }
-}
-
-fn finish(held: Record, number: usize, time: Ticks) -> Answered {
-    let answer = held.finish(number, time);
-    let sum = add(answer.refusal as u64, (answer.late < 0) as u64);
-    let next = answer.next;
-    Answered {
-        next: next,
-        sum: sum,
-    }
-}
-
-fn look(held: Record, number: usize, time: Ticks) -> Answered {
-    let answer = held.look(number, time);
-    let refusal = answer.refusal as u64;
-    let choice = answer.choice;
-    let chosen = match choice {
+// A number for a choice.
+fn chosen(choice: Choice) -> u64 {
+    match choice {
         Choice::Idle => 0,
         Choice::Fixed(task, deadline) => add(task as u64, deadline.0),
         Choice::Mover(task, deadline, side) => add(task as u64, deadline.0),
-    };
-    let next = answer.next;
-    Answered {
-        next: next,
-        sum: add(refusal, chosen),
     }
-}
-
-// One call.
-fn made(held: Record, step: Step) -> Answered {
-    let time = step.time;
-    if step.kind == 1 {
-        return release(held, step.number, time);
-    }
-    if step.kind == 2 {
-        return finish(held, step.number, time);
-    }
-    look(held, step.number, time)
 }
 
 // No more than a script has room for.
@@ -147,10 +105,28 @@ pub fn lap_all(first: Record, script: Script) -> Answered {
     let mut sum: u64 = 0;
     let mut k: usize = 0;
     while k < count {
-        let next = steps[k];
-        let answer = made(held, next);
-        held = answer.next;
-        sum = add(sum, answer.sum);
+        let step = steps[k];
+        let time = step.time;
+        if step.kind == 1 {
+            let answer = held.release(step.number, time);
+            held = answer.next;
+            sum = add(
+                sum,
+                add(
+                    answer.refusal as u64,
+                    add(answer.core as u64, answer.deadline.0),
+                ),
+            );
+        } else if step.kind == 2 {
+            let answer = held.finish(step.number, time);
+            held = answer.next;
+            sum = add(sum, add(answer.refusal as u64, (answer.late < 0) as u64));
+        } else {
+            let answer = held.look(step.number, time);
+            held = answer.next;
+            let choice = answer.choice;
+            sum = add(sum, add(answer.refusal as u64, chosen(choice)));
+        }
         k += 1;
     }
     Answered {

@@ -16,17 +16,56 @@ few-requires c κs = search needs
 loop-holds : tie.Need-loop-holds Inv-loop μ-loop
 loop-holds c = search needs
 
-mul-next : tie.Need-mul-next Inv-loop μ-loop
-mul-next c = search needs
+mul-step : tie.Need-mul-step Inv-loop μ-loop
+mul-step c = search needs
 
-array-copy-out-next : tie.Need-array-copy-out-next Inv-loop μ-loop
-array-copy-out-next c = search needs
+array-copy-out-step : tie.Need-array-copy-out-step Inv-loop μ-loop
+array-copy-out-step c = search needs
 
-made-requires : tie.Need-made-requires Inv-loop μ-loop
-made-requires c κs = search needs
+release-requires : tie.Need-release-requires Inv-loop μ-loop
+release-requires c κs = search needs
+
+cast-add : tie.Need-cast-add Inv-loop μ-loop
+cast-add c = search needs
 
 add-requires : tie.Need-add-requires Inv-loop μ-loop
 add-requires c κs = search needs
+
+add-requires-2 : tie.Need-add-requires-2 Inv-loop μ-loop
+add-requires-2 c κs = search needs
+
+add-requires-3 : tie.Need-add-requires-3 Inv-loop μ-loop
+add-requires-3 c κs = search needs
+
+finish-requires : tie.Need-finish-requires Inv-loop μ-loop
+finish-requires c κs = search needs
+
+cast-add-2 : tie.Need-cast-add-2 Inv-loop μ-loop
+cast-add-2 c = search needs
+
+cast-add-3 : tie.Need-cast-add-3 Inv-loop μ-loop
+cast-add-3 c = search needs
+
+add-requires-4 : tie.Need-add-requires-4 Inv-loop μ-loop
+add-requires-4 c κs = search needs
+
+add-requires-5 : tie.Need-add-requires-5 Inv-loop μ-loop
+add-requires-5 c κs = search needs
+
+look-requires : tie.Need-look-requires Inv-loop μ-loop
+look-requires c κs = search needs
+
+cast-add-4 : tie.Need-cast-add-4 Inv-loop μ-loop
+cast-add-4 c = search needs
+
+chosen-requires : tie.Need-chosen-requires Inv-loop μ-loop
+chosen-requires c κs = search needs
+
+add-requires-6 : tie.Need-add-requires-6 Inv-loop μ-loop
+add-requires-6 c κs = search needs
+
+add-requires-7 : tie.Need-add-requires-7 Inv-loop μ-loop
+add-requires-7 c κs = search needs
 
 add-k : tie.Need-add-k Inv-loop μ-loop
 add-k c = search needs
@@ -48,10 +87,23 @@ lap-all-spec =
     μ-loop
     few-requires
     loop-holds
-    mul-next
-    array-copy-out-next
-    made-requires
+    mul-step
+    array-copy-out-step
+    release-requires
+    cast-add
     add-requires
+    add-requires-2
+    add-requires-3
+    finish-requires
+    cast-add-2
+    cast-add-3
+    add-requires-4
+    add-requires-5
+    look-requires
+    cast-add-4
+    chosen-requires
+    add-requires-6
+    add-requires-7
     add-k
     loop-less
     loop-again
