@@ -4,14 +4,17 @@ use mathlib.Core.Path.{_≡_, refl, _∙_}
 use mathlib.Core.List.{List}
 use native.Mathlib.Omega.{arith}
 use lib.Dec.{eqb}
-use lib.ListN.{length, getD, set, length-set}
-use lib.Seq.{getD-set-same, getD-set-other}
+use lib.ListN.{length, getD, set, take, length-set}
+use lib.Seq.{getD-set-same, getD-set-other, getD-take}
 use borrow.Author.Tests.{lt-ltb, le-ltb, eqb-true, eqb-false}
 use Rattle.units.specs.declared.share.Share.{Share}
 use Rattle.units.specs.Limits.{coresLimit}
 use Rattle.units.specs.Units.{share, nums}
 use Rattle.units.proofs.Units.{nums-at}
 use Rattle.lists.proofs.Tests.{by-cases}
+use Rattle.lists.proofs.Lists.{getD-le-sum}
+use Rattle.lists.proofs.Parts.{first-below}
+use Rattle.assignment.specs.Movers.{firstCore}
 use Rattle.tally.specs.declared.Tally.{Tally}
 use Rattle.tally.specs.Tally.{noTally, withMover, withShares}
 
@@ -22,9 +25,9 @@ pub record Put (f : ℕ → Tally → Tally) (old : List Tally) (p : ℕ) (new :
   pub left : (q : ℕ) → p ≤ q → getD new q noTally ≡ getD old q noTally
 
 module _ (f : ℕ → Tally → Tally) (old : List Tally) where
-  -- none is passed
-  pub put-none : length old ≡ coresLimit → Put f old 0 old
-  put-none h = record { long = h; done = λ q k. absurd (omega arith); left = λ q k. refl }
+  -- the first cores can be passed, if they are not to change
+  pub put-from : (p : ℕ) → length old ≡ coresLimit → ((q : ℕ) → q < p → getD old q noTally ≡ f q (getD old q noTally)) → Put f old p old
+  put-from p h e = record { long = h; done = e; left = λ q k. refl }
 
   module _ (p : ℕ) (new : List Tally) (k : Put f old p new) (h : p < coresLimit) where
     -- a core that is changed
@@ -57,3 +60,9 @@ module _ (w f : ℕ) (ss : List Share) (p : ℕ) (t : Tally) where
   -- a core without one
   pub share-none : getD ss p (share 0) .0 ≤ 0 → t ≡ withShares w f (nums ss) p t
   share-none h = rw (nums-at ss p, le-ltb 0 (getD ss p (share 0) .0) h)
+
+-- below its first core a task has no share
+pub none-below : (ss : List Share) (f q : ℕ) → f ≡ firstCore (nums ss) → q < f → getD ss q (share 0) .0 ≤ 0
+none-below ss f q e h =
+    let row = nums ss in
+    omega (arith, e, nums-at ss q, getD-take (firstCore row) row q 0 (omega arith), getD-le-sum (take (firstCore row) row) q, first-below row)

@@ -3,16 +3,13 @@ use planning::Line;
 use rows::first_core;
 use units::limits::CORES;
 use units::limits::TASKS;
-use units::share::Share;
 ghost use mathlib.Core.Path.{_≡_};
 ghost use mathlib.Core.List.{map};
 ghost use Prim.Native.Nat.{ℕ, _≤_, _<_, max};
 ghost use lib.ListN.{getD};
 ghost use Rattle.units.specs.Limits.{coresLimit, commonLimit};
-ghost use Rattle.units.specs.Units.{nums};
-ghost use Rattle.lists.specs.Lists.{sum};
 ghost use Rattle.planning.specs.Plan.{rowOf};
-ghost use Rattle.tally.specs.Tally.{noTally, tallyOf, withFixed, withMover, withShares, Light, Weighed};
+ghost use Rattle.tally.specs.Tally.{noTally, tallyOf, withFixed, withMover, Light, Weighed};
 
 // Of one core: its load, its movers, those whose first core it is, the weight of the heaviest mover and of the heaviest fixed task.
 pub struct Tally {
@@ -68,29 +65,6 @@ impl Tally {
     }
 }
 
-// With a mover's shares.
-fn with_shares(
-    tallies: [Tally; CORES],
-    weight: u32,
-    shares: [Share; CORES],
-    first: usize,
-) -> [Tally; CORES]
-    requires { ⌜ ((p : ℕ) → p < coresLimit → Light (getD tallies p noTally)) × (sum (nums shares) ≤ commonLimit) ⌝ }
-    ensures { λ r. ⌜ ((p : ℕ) → p < coresLimit → getD r p noTally ≡ withShares weight first (nums shares) p (getD tallies p noTally)) ⌝ }
-{
-    let mut all = tallies;
-    let mut p: usize = 0;
-    while p < CORES {
-        let s = shares[p].0;
-        if 0 < s {
-            let t = all[p];
-            all[p] = t.with_mover(weight, s, first == p);
-        }
-        p += 1;
-    }
-    all
-}
-
 // What the tasks put on each core: a task is fixed if its first share is its weight.
 pub fn tallies_of(lines: [Line; TASKS]) -> [Tally; CORES]
     requires { ⌜ Weighed lines ⌝ }
@@ -110,7 +84,16 @@ pub fn tallies_of(lines: [Line; TASKS]) -> [Tally; CORES]
                 let t = tallies[first];
                 tallies[first] = t.with_fixed(weight);
             } else {
-                tallies = with_shares(tallies, weight, shares, first);
+                // In place: a function of its own would copy the tallies twice for each mover.
+                let mut p: usize = first;
+                while p < CORES {
+                    let n = shares[p].0;
+                    if 0 < n {
+                        let t = tallies[p];
+                        tallies[p] = t.with_mover(weight, n, first == p);
+                    }
+                    p += 1;
+                }
             }
         }
     }
