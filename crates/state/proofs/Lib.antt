@@ -1,4 +1,4 @@
-pub mod Sums
+pub mod Ruled
 pub mod Oldest
 pub mod RunFacts
 pub mod Facts

@@ -5,47 +5,49 @@ use planning::Line;
 use units::limits::CLOCK;
 use units::limits::CORES;
 use units::limits::RUNS;
+use units::share::Share;
 ghost use mathlib.Core.Path.{_≡_};
-ghost use mathlib.Core.Bool.{cond};
-ghost use Prim.Native.Nat.{_≤_};
-ghost use lib.Dec.{eqb};
-ghost use Rattle.units.specs.Limits.{periodLimit};
+ghost use mathlib.Core.Bool.{true, cond, _&&_};
+ghost use Prim.Native.Nat.{_≤_, _<_};
+ghost use lib.Dec.{ltb, leb, eqb};
+ghost use Rattle.units.specs.Limits.{coresLimit, periodLimit};
 ghost use Rattle.lists.specs.Lists.{sum};
-ghost use Rattle.state.specs.Sound.{runSound, runEmpty, runsSound, turnSound, lastSound, stateSound, runsEmpty, stateEmpty};
+ghost use Rattle.state.specs.Sound.{runEmpty, runsSound, lastSound, stateSound, runsEmpty, stateEmpty};
 
-// The turn counts sum to this number: each is taken from what is left of it.
+// A count in the width of their sum: the proof knows the bound of a parameter, not of an array's element.
+fn wide(count: u32) -> u64
+    ensures { λ r. ⌜ (r ≡ count) × (r < 4294967296) ⌝ }
+{
+    count as u64
+}
+
+// The turn counts sum to this number.
 fn sums_to(counts: [u32; CORES], total: u32) -> bool
     ensures { λ r. ⌜ r ≡ eqb (sum counts) total ⌝ }
 {
-    let mut left = total;
+    let mut all: u64 = 0;
     let mut p: usize = 0;
     while p < CORES {
         let n = counts[p];
-        if left < n {
-            return false;
-        }
-        left -= n;
+        all += wide(n);
         p += 1;
     }
-    left == 0
+    all == total as u64
 }
 
 impl Run {
-    // Its core is one where its task has a share, and its deadline at most the clock's limit plus T.
-    fn sound(self, line: Line) -> bool
-        requires { ⌜ line .period .0 ≤ periodLimit ⌝ }
-        ensures { λ r. ⌜ r ≡ runSound line self ⌝ }
+    // Its core is from 1 to 16.
+    fn placed(self) -> bool
+        ensures { λ r. ⌜ r ≡ (ltb 0 (self .core) && leb (self .core) coresLimit) ⌝ }
     {
-        let core = self.core;
-        if core == 0 {
-            return false;
-        }
-        if CORES < core {
-            return false;
-        }
-        let at = core - 1;
-        let s = line.shares[at];
-        (0 < s.0) & (self.deadline.0 <= CLOCK + line.period.0)
+        (0 < self.core) & (self.core <= CORES)
+    }
+
+    // Its task has a share on its core, and its deadline is at most the latest.
+    fn sound(self, share: Share, latest: u64) -> bool
+        ensures { λ r. ⌜ r ≡ (ltb 0 (share .0) && leb (self .deadline .0) latest) ⌝ }
+    {
+        (0 < share.0) & (self.deadline.0 <= latest)
     }
 
     // All numbers are 0.
@@ -53,17 +55,6 @@ impl Run {
         ensures { λ r. ⌜ r ≡ runEmpty self ⌝ }
     {
         (self.core == 0) & (self.deadline.0 == 0)
-    }
-
-    // Sound among the unfinished runs, empty past them.
-    fn rule(self, line: Line, live: bool) -> bool
-        requires { ⌜ line .period .0 ≤ periodLimit ⌝ }
-        ensures { λ r. ⌜ r ≡ cond live (runSound line self) (runEmpty self) ⌝ }
-    {
-        if live {
-            return self.sound(line);
-        }
-        self.empty()
     }
 }
 
@@ -76,10 +67,21 @@ impl State {
         if RUNS < self.live {
             return false;
         }
+        let shares = line.shares;
+        let latest = CLOCK + line.period.0;
         let mut k: usize = 0;
         while k < RUNS {
             let run = self.runs[k];
-            if !run.rule(line, k < self.live) {
+            if k < self.live {
+                if !run.placed() {
+                    return false;
+                }
+                let at = run.core - 1;
+                let share = shares[at];
+                if !run.sound(share, latest) {
+                    return false;
+                }
+            } else if !run.empty() {
                 return false;
             }
             k += 1;
@@ -87,27 +89,11 @@ impl State {
         true
     }
 
-    // The turn counts sum to the place, which is below the weight.
-    fn turn_sound(self, line: Line) -> bool
-        ensures { λ r. ⌜ r ≡ turnSound line self ⌝ }
-    {
-        let counts = self.counts;
-        sums_to(counts, self.place) & (self.place < line.weight.0)
-    }
-
     // A last release is within the clock's range, and 0 where there was none.
     fn last_sound(self) -> bool
         ensures { λ r. ⌜ r ≡ lastSound self ⌝ }
     {
         (self.last.0 <= CLOCK) & (self.had | (self.last.0 == 0))
-    }
-
-    // The rules for a task in use.
-    pub fn sound(self, line: Line) -> bool
-        requires { ⌜ line .period .0 ≤ periodLimit ⌝ }
-        ensures { λ r. ⌜ r ≡ stateSound line self ⌝ }
-    {
-        self.runs_sound(line) & self.turn_sound(line) & self.last_sound()
     }
 
     // No run stands.
@@ -125,16 +111,18 @@ impl State {
         true
     }
 
-    // Past the N tasks all numbers are 0.
-    pub fn empty(self) -> bool
-        ensures { λ r. ⌜ r ≡ stateEmpty self ⌝ }
+    // A task in use is sound, another is empty: both ask what the counts sum to, which is quicker before any branch.
+    pub fn ok(self, used: bool, line: Line) -> bool
+        requires { ⌜ (used ≡ true → line .period .0 ≤ periodLimit) ⌝ }
+        ensures { λ r. ⌜ r ≡ cond used (stateSound line self) (stateEmpty self) ⌝ }
     {
         let counts = self.counts;
-        sums_to(counts, 0)
-            & (self.place == 0)
-            & (self.last.0 == 0)
-            & !self.had
-            & (self.live == 0)
-            & self.runs_empty()
+        if !sums_to(counts, self.place) {
+            return false;
+        }
+        if used {
+            return (self.place < line.weight.0) & self.last_sound() & self.runs_sound(line);
+        }
+        (self.place == 0) & (self.last.0 == 0) & !self.had & (self.live == 0) & self.runs_empty()
     }
 }
