@@ -8,7 +8,6 @@ use Rattle.planning.specs.declared.Line.{Line}
 use Rattle.state.specs.declared.State.{State}
 use Rattle.state.specs.Key.{deadlineOf, waits, keyOf}
 use Rattle.dispatch.specs.declared.Record.{Record}
-use Rattle.dispatch.specs.declared.look.Side.{Side}
 use Rattle.dispatch.specs.declared.look.Side.the-variants.{Upper, Lower}
 use Rattle.dispatch.specs.declared.look.Choice.{Choice}
 use Rattle.dispatch.specs.declared.look.Choice.the-variants.{Idle, Fixed, Mover}

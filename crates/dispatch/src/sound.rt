@@ -1,30 +1,16 @@
 // Refusal 15: whether a record is sound, for any numbers whatever.
 use crate::Record;
-use planning::Line;
 use planning::Plan;
 use soundness::plan::plan_sound;
 use state::State;
 use units::limits::CLOCK;
 use units::limits::TASKS;
 ghost use mathlib.Core.Path.{_≡_};
-ghost use mathlib.Core.Bool.{true, cond};
-ghost use Prim.Native.Nat.{_≤_};
-ghost use Rattle.units.specs.Limits.{tasksLimit, periodLimit};
+ghost use mathlib.Core.Bool.{true};
+ghost use Rattle.units.specs.Limits.{tasksLimit};
 ghost use Rattle.lists.specs.Below.{allBelow};
 ghost use Rattle.soundness.specs.Plan.{planSound};
-ghost use Rattle.state.specs.Sound.{stateSound, stateEmpty};
 ghost use Rattle.dispatch.specs.Sound.{stateOk, soundOf};
-
-// A task in use is sound, another is empty.
-fn state_ok(used: bool, line: Line, state: State) -> bool
-    requires { ⌜ (used ≡ true → line .period .0 ≤ periodLimit) ⌝ }
-    ensures { λ r. ⌜ r ≡ cond used (stateSound line state) (stateEmpty state) ⌝ }
-{
-    if used {
-        return state.sound(line);
-    }
-    state.empty()
-}
 
 // Each task in use is sound, the others are empty.
 fn states_sound(plan: Plan, states: [State; TASKS]) -> bool
@@ -36,7 +22,7 @@ fn states_sound(plan: Plan, states: [State; TASKS]) -> bool
     while i < TASKS {
         let line = plan.lines[i];
         let state = states[i];
-        if !state_ok(i < count, line, state) {
+        if !state.ok(i < count, line) {
             return false;
         }
         i += 1;

@@ -16,8 +16,8 @@ use Rattle.admission.specs.Weight.{weight}
 use Rattle.planning.specs.declared.Line.{Line}
 use Rattle.planning.specs.declared.Plan.{Plan}
 use Rattle.planning.specs.Plan.{noLine, rowOf}
-use Rattle.soundness.specs.Plan.{lineSound, planSound}
-use Rattle.soundness.proofs.Facts.{ruled, Numbers, numbers, task-sound}
+use Rattle.soundness.specs.Plan.{planSound}
+use Rattle.soundness.proofs.Facts.{ruled, numbers, task-sound}
 use Rattle.soundness.proofs.Ranges.{in-range, sound-in, sound-weight, sound-sum}
 
 -- the weight of a task whose cost is from 1 to its period, which divides l

@@ -1,13 +1,13 @@
 -- A list that is taken starts a good record.
-use Prim.Native.Nat.{ℕ, _/_, _<_}
-use mathlib.Core.Path.{_≡_, refl, sym, ap, _∙_, subst⁻¹}
+use Prim.Native.Nat.{ℕ, _/_}
+use mathlib.Core.Path.{_≡_, sym, ap, _∙_, subst⁻¹}
 use mathlib.Core.List.{List, [], map}
 use native.Mathlib.Omega.{arith}
 use lib.Dec.{ltb}
 use lib.ListN.{length, getD, length-map}
 use borrow.Author.Tests.{ltb-true, ltb-false}
-use Rattle.units.specs.Limits.{coresLimit, tasksLimit}
-use Rattle.units.specs.Units.{share, units}
+use Rattle.units.specs.Limits.{tasksLimit}
+use Rattle.units.specs.Units.{share}
 use Rattle.lists.proofs.Tests.{by-cases}
 use Rattle.admission.specs.Weight.{padded}
 use Rattle.admission.specs.Admission.{refusalOf}
@@ -18,13 +18,12 @@ use Rattle.assignment.specs.Passes.{sharesOf, rooms}
 use Rattle.placed.proofs.Placed.{placed-length, placed-wide}
 use Rattle.planning.specs.declared.Line.{Line}
 use Rattle.planning.specs.declared.Plan.{Plan}
-use Rattle.planning.specs.Plan.{emptyLine, noLine, planFor, planOf}
+use Rattle.planning.specs.Plan.{emptyLine, planFor, planOf}
 use Rattle.planned.proofs.Lines.{long, task-line, empty-line}
 use Rattle.planned.proofs.Keeps.{Fits}
 use Rattle.planned.proofs.Taken.{taken-fits, taken-plan, plan-number}
 use Rattle.planned.proofs.Sound.{plan-sound}
-use Rattle.dispatch.specs.declared.Record.{Record}
-use Rattle.dispatch.specs.Record.{recordOf, freshOf}
+use Rattle.dispatch.specs.Record.{recordOf}
 use Rattle.dispatched.specs.Shape.{PlanShaped, Good}
 use Rattle.dispatched.proofs.Fresh.{fresh-good}
 

@@ -10,7 +10,7 @@ use Rattle.decimal.specs.Ascii.{ascii}
 use Rattle.fields.specs.Word.{wordAt}
 use Rattle.fields.specs.declared.word.Word.the-variants.{After, NoWord}
 use Rattle.fields.proofs.Words.{word-here, word-none}
-use Rattle.input.specs.Input.{lineStarts, callsHere, firstOf, callsPlace}
+use Rattle.input.specs.Input.{lineStarts, callsHere, firstPlace, callsPlace}
 
 module _ (s : List ℕ) (at : ℕ) where
   -- no line starts there
@@ -32,7 +32,7 @@ module _ (s : List ℕ) (at : ℕ) where
 -- while the first line `calls` is looked for: from a place on it is the same
 pub record Sought (s : List ℕ) (at : ℕ) : Type 0 where
   pub within : at ≤ length s
-  pub same : callsPlace s ≡ firstOf (callsHere s) (length s - at) at
+  pub same : callsPlace s ≡ firstPlace (callsHere s) (length s - at) at
 
 pub first : (s : List ℕ) → Sought s 0
 unfolding callsPlace
@@ -41,19 +41,19 @@ first s = record { within = omega arith; same = rw (sub-zero (length s)) refl }
 module _ (s : List ℕ) (at : ℕ) (h : Sought s at) where
   -- it is here
   pub found : at < length s → callsHere s at ≡ true → at ≡ callsPlace s
-  unfolding firstOf
+  unfolding firstPlace
   found k e =
       let z : length s - at ≡ suc (length s - (at + 1)) = omega arith in
       sym (h .same ∙ rw (z, e) refl)
 
   -- it is not
   pub passed : at < length s → callsHere s at ≡ false → Sought s (at + 1)
-  unfolding firstOf
+  unfolding firstPlace
   passed k e =
       let z : length s - at ≡ suc (length s - (at + 1)) = omega arith in
       record { within = omega arith; same = h .same ∙ rw (z, e) refl }
 
   -- there is none
   pub none : length s ≤ at → at ≡ callsPlace s
-  unfolding firstOf
+  unfolding firstPlace
   none k = let z : length s - at ≡ 0 = omega arith in sym (h .same ∙ rw z refl)

@@ -31,13 +31,13 @@ unfoldable pub callsHere : List ℕ → ℕ → Bool
 callsHere s at = lineStarts s at && starts (ascii "calls\n") (drop at s)
 
 -- the first of n places, from one on, that passes a test; the place after them if none does
-unfoldable pub firstOf : (ℕ → Bool) → ℕ → ℕ → ℕ
-firstOf f zero at = at
-firstOf f (suc n) at = cond (f at) at (firstOf f n (at + 1))
+unfoldable pub firstPlace : (ℕ → Bool) → ℕ → ℕ → ℕ
+firstPlace f zero at = at
+firstPlace f (suc n) at = cond (f at) at (firstPlace f n (at + 1))
 
 -- where the first line `calls` stands, and the text's end if there is none
 unfoldable pub callsPlace : List ℕ → ℕ
-callsPlace s = firstOf (callsHere s) (length s) 0
+callsPlace s = firstPlace (callsHere s) (length s) 0
 
 -- the first unreadable one of the calls from a place on, where this line starts, and 0 if there is none
 abbrev pub badCall : List ℕ → ℕ → ℕ → ℕ

@@ -5,7 +5,6 @@ use Rattle.dispatch.specs.Refusals.{taskNo, finishNo}
 use Rattle.dispatch.specs.Finish.{takeFinish, refuseFinish}
 use Rattle.state.specs.declared.State.{State}
 use Rattle.state.specs.Key.{deadlineOf}
-use Rattle.state.specs.Runs.{withoutRun}
 use Rattle.arith.proofs.Signed.{pos-fits, sub-fits, sub-is}
 use Rattle.units.specs.Limits.{clockLimit, periodLimit}
 use lib.IntN.{ℤ, subℕ}

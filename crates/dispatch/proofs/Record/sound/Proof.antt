@@ -3,7 +3,7 @@ use Rattle.soundness.specs.Plan.{planSound}
 use Rattle.units.specs.Limits.{clockLimit}
 use borrow.Author.Tests.{lt-leb, le-leb, not-true, not-false}
 use mathlib.Core.Bool.{true, false}
-use mathlib.Core.Path.{_≡_, refl, sym, _∙_}
+use mathlib.Core.Path.{_≡_, sym, _∙_}
 use borrow.Author.Needs.{needs}
 use Rattle.dispatch.proofs.Record.sound.Statement.{statement}
 use Rattle.dispatch.proofs.Record.sound.Tie as tie

@@ -1,6 +1,6 @@
 use Rattle.units.specs.Limits.{clockLimit}
 use borrow.Author.Needs.{needs}
-use borrow.Author.Tests.{not-true, not-false, lt-ltb, le-ltb}
+use borrow.Author.Tests.{not-false, lt-ltb, le-ltb}
 use Rattle.dispatch.proofs.refusals.first_no.Statement.{statement}
 use Rattle.dispatch.proofs.refusals.first_no.Tie as tie
 

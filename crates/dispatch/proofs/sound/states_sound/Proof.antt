@@ -6,7 +6,7 @@ use Rattle.lists.specs.Below.{allBelow}
 use Rattle.units.specs.Limits.{tasksLimit}
 use native.Mathlib.Omega.{arith}
 use mathlib.Core.Bool.{true}
-use mathlib.Core.Path.{_≡_, refl, sym, ap, _∙_}
+use mathlib.Core.Path.{_≡_, sym, _∙_}
 use Prim.Native.Nat.{_-_, _≤_}
 use Rattle.dispatch.proofs.sound.states_sound.Statement.{statement}
 use Rattle.dispatch.proofs.sound.states_sound.Tie as tie
@@ -32,8 +32,8 @@ mul-state c = omega arith
 array-copy-out-state : tie.Need-array-copy-out-state Inv-loop μ-loop
 array-copy-out-state c = omega arith
 
-state-ok-requires : tie.Need-state-ok-requires Inv-loop μ-loop
-state-ok-requires c κs =
+ok-requires : tie.Need-ok-requires Inv-loop μ-loop
+ok-requires c κs =
     let s = c .before .before .before .before in
     let i = c .before .before .before .loop .i in
     λ u. period-small (s .args .t1) (s .pre) i (ltb-true i (s .args .t1 .count) u)
@@ -42,7 +42,7 @@ returns : tie.Need-returns Inv-loop μ-loop
 returns c =
     let s = c .before .before .before .before .before .before .args in
     let i = c .before .before .before .before .before .loop .i in
-    sym (all-fails tasksLimit i (stateOk (s .t1) (s .t2)) (omega arith) (sym (c .before .state-ok .ensures) ∙ not-true (c .before .state-ok .result) (c .if1 .taken)))
+    sym (all-fails tasksLimit i (stateOk (s .t1) (s .t2)) (omega arith) (sym (c .before .ok .ensures) ∙ not-true (c .before .ok .result) (c .if1 .taken)))
 
 add-i : tie.Need-add-i Inv-loop μ-loop
 add-i c = omega arith
@@ -54,7 +54,7 @@ loop-again : tie.Need-loop-again Inv-loop μ-loop
 loop-again c =
     let s = c .before .before .before .before .before .before .args in
     let at = c .before .before .before .before .before .loop in
-    (omega arith, all-more (at .i) (stateOk (s .t1) (s .t2)) (at .inv .1) (sym (c .before .state-ok .ensures) ∙ not-false (c .before .state-ok .result) (c .if1 .left)))
+    (omega arith, all-more (at .i) (stateOk (s .t1) (s .t2)) (at .inv .1) (sym (c .before .ok .ensures) ∙ not-false (c .before .ok .result) (c .if1 .left)))
 
 returns-2 : tie.Need-returns-2 Inv-loop μ-loop
 returns-2 c =
@@ -72,7 +72,7 @@ states-sound-spec =
     element-copy-out-line
     mul-state
     array-copy-out-state
-    state-ok-requires
+    ok-requires
     returns
     add-i
     loop-less
