@@ -8,7 +8,7 @@ use native.Mathlib.Omega.{arith}
 use Rattle.dispatch.specs.declared.Record.{Record}
 use Rattle.dispatched.specs.Shape.{Good}
 use Rattle.dispatched.specs.Calls.{Call, release, finish, look, timeOf, refusalOf, step, after}
-use Rattle.dispatched.proofs.Passed.{release-passed, finish-passed, look-passed}
+use Rattle.dispatch.proofs.Passed.{release-passed, finish-passed, look-passed}
 use Rattle.dispatched.proofs.Answers.{release-answer, finish-answer, look-answer, release-refused, finish-refused, look-refused, release-taken, finish-taken, look-taken}
 use Rattle.dispatched.proofs.Keeps.{release-good, finish-good, look-good}
 

@@ -19,7 +19,7 @@ use Rattle.dispatch.specs.Refusals.{lookNo}
 use Rattle.dispatch.specs.Look.{bestOf, choiceFor, choiceOf, lookOf}
 use Rattle.dispatched.specs.Shape.{Good}
 use Rattle.dispatched.specs.Choice.{deadlineAt, keyAt, UpperOn, LowerOn, FixedOn, Least, None, First, Answer, Chosen, as-upper, as-lower, as-fixed}
-use Rattle.dispatched.proofs.Records.{held}
+use Rattle.dispatch.proofs.Held.{held}
 use Rattle.dispatched.proofs.Answers.{look-choice}
 use Rattle.dispatched.proofs.Plans.{sound-kept}
 use Rattle.dispatched.proofs.Search.{Found, found}

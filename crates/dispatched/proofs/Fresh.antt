@@ -18,7 +18,7 @@ use Rattle.dispatch.specs.Record.{recordOf, lineAt, stateAt}
 use Rattle.dispatch.specs.Sound.{stateOk}
 use Rattle.dispatched.specs.Shape.{PlanShaped, Good}
 use Rattle.dispatched.proofs.Facts.{lined}
-use Rattle.dispatched.proofs.Records.{held, sound}
+use Rattle.dispatch.proofs.Held.{held, sound}
 
 module _ (pl : Plan) where
   -- each task is fresh

@@ -16,7 +16,7 @@ use Rattle.dispatch.specs.Finish.{finishOf}
 use Rattle.dispatch.specs.Look.{lookOf}
 use Rattle.dispatched.specs.Shape.{Good}
 use Rattle.dispatched.proofs.Records.{task-lined, task-wide, task-shaped, task-sound, moved-good, timed-good}
-use Rattle.dispatched.proofs.Passed.{release-passed, finish-passed, look-passed}
+use Rattle.dispatch.proofs.Passed.{release-passed, finish-passed, look-passed}
 use Rattle.dispatched.proofs.Answers.{release-refused, finish-refused, look-refused, release-taken, finish-taken, look-taken}
 
 module _ (r : Record) (i t : ℕ) (g : Good r) where

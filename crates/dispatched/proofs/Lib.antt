@@ -1,7 +1,6 @@
 pub mod Facts
 pub mod Stored
 pub mod Records
-pub mod Passed
 pub mod Answers
 pub mod Keeps
 pub mod Always

@@ -26,7 +26,7 @@ use Rattle.dispatch.specs.Look.{lookOf}
 use Rattle.dispatched.specs.Shape.{Good}
 use Rattle.dispatched.specs.Calls.{Call, release, finish, look, step, coreBy}
 use Rattle.dispatched.proofs.Records.{task-in}
-use Rattle.dispatched.proofs.Passed.{release-passed}
+use Rattle.dispatch.proofs.Passed.{release-passed}
 use Rattle.dispatched.proofs.Answers.{release-answer, release-refused, finish-refused, look-refused, release-taken, finish-taken, look-taken, release-core}
 use Rattle.dispatched.proofs.Always.{step-good, step-plan}
 

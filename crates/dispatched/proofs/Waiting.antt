@@ -25,7 +25,8 @@ use Rattle.dispatch.specs.declared.Record.{Record}
 use Rattle.dispatch.specs.Record.{lineAt, stateAt}
 use Rattle.dispatched.specs.Shape.{Good}
 use Rattle.dispatched.specs.Choice.{Waits}
-use Rattle.dispatched.proofs.Records.{held, task-sound}
+use Rattle.dispatch.proofs.Held.{held}
+use Rattle.dispatched.proofs.Records.{task-sound}
 
 -- a task that waits has an unfinished run
 empty-waits : (st : State) (k : ℕ) → stateEmpty st ≡ true → waits st k ≡ true → ⊥

@@ -28,7 +28,7 @@ use Rattle.soundness.proofs.Facts.{tasks-few, weight-small, shares-sum}
 use Rattle.dispatch.specs.declared.Record.{Record}
 use Rattle.dispatched.specs.Shape.{PlanShaped, Good}
 use Rattle.dispatched.proofs.Plans.{sound-kept}
-use Rattle.dispatched.proofs.Records.{held}
+use Rattle.dispatch.proofs.Held.{held}
 use Rattle.listing.specs.Listed.{planListed, listedOf}
 use Rattle.decimal.specs.Field.{field, lineEnd}
 use Rattle.listing.specs.Listing.{shareText, sharesText, headText, rowText, lateText, taskText, tasksText, listingText}

@@ -1,4 +1,5 @@
-use Rattle.dispatch.proofs.Passed.{Passed, passed, finish-passed}
+use Rattle.dispatch.proofs.Passed.{Passed, task-passed}
+use Rattle.dispatch.proofs.Called.{below, can-finish, oldest-small}
 use Rattle.dispatch.proofs.Numbers.{task-first, finish-first, finish-own, finish-refused, finish-taken}
 use Rattle.dispatch.specs.Record.{stateAt, moved}
 use Rattle.dispatch.specs.Refusals.{taskNo, finishNo}
@@ -10,7 +11,7 @@ use Rattle.units.specs.Limits.{clockLimit, periodLimit}
 use lib.IntN.{ℤ, subℕ}
 use native.Mathlib.Omega.{arith}
 use mathlib.Core.Path.{_≡_, sym, ap, ap₂, _∙_}
-use Prim.Native.Nat.{ℕ, _+_, _-_, _≤_, _<_}
+use Prim.Native.Nat.{ℕ, _+_, _-_, _≤_}
 use borrow.Author.Needs.{needs}
 use Rattle.dispatch.proofs.Record.finish.Statement.{statement}
 use Rattle.dispatch.proofs.Record.finish.Tie as tie
@@ -26,27 +27,25 @@ first : (c : tie.After-first-no) → c .first-no .result ≡ taskNo (c .before .
 first c = task-first (c .before .before .before .args .t1) (c .before .before .before .args .task) (c .before .before .before .args .time .0) (c .before .sound .result) (c .first-no .result) (c .before .sound .ensures) (c .first-no .ensures)
 
 -- what is known after that
-known : (c : tie.Then1) → Passed (c .before .before .before .before .args .t1) (c .before .before .before .before .args .task) (c .before .before .before .before .args .time .0)
-known c = passed (c .before .before .before .before .args .t1) (c .before .before .before .before .args .task) (c .before .before .before .before .args .time .0) (sym (first (c .before)) ∙ c .if1 .taken)
+known : (c : tie.Then1) → Passed (c .before .before .before .before .args .t1) (c .before .before .before .before .args .t1 .plan .count) (c .before .before .before .before .args .task) (c .before .before .before .before .args .time .0)
+known c = task-passed (c .before .before .before .before .args .t1) (c .before .before .before .before .args .task) (c .before .before .before .before .args .time .0) (sym (first (c .before)) ∙ c .if1 .taken)
 
 -- the finish's number
 own : (c : tie.After-finish-own) → c .finish-own .result ≡ finishNo (c .before .before .before .before .before .before .args .t1) (c .before .before .before .before .before .before .args .task) (c .before .before .before .before .before .before .args .time .0)
 own c = finish-own (c .before .before .before .before .before .before .args .t1) (c .before .before .before .before .before .before .args .task) (c .before .before .before .before .before .before .args .time .0) (c .before .before .before .first-no .result) (first (c .before .before .before)) (c .before .before .if1 .taken) (c .finish-own .result) (c .finish-own .ensures)
 
--- the run that is ended
-ended : (c : tie.Then2) → (0 < stateAt (c .before .before .before .before .before .before .before .args .t1) (c .before .before .before .before .before .before .before .args .task - 1) .live) × (deadlineOf (stateAt (c .before .before .before .before .before .before .before .args .t1) (c .before .before .before .before .before .before .before .args .task - 1)) ≤ clockLimit + periodLimit)
-ended c =
-    let x = finish-passed (c .before .before .before .before .before .before .before .args .t1) (c .before .before .before .before .before .before .before .args .task) (c .before .before .before .before .before .before .before .args .time .0) (sym (own (c .before)) ∙ c .if2 .taken) in
-    (x .1, x .2)
+-- the deadline of the run that is ended
+small : (c : tie.Then1) → deadlineOf (stateAt (c .before .before .before .before .args .t1) (c .before .before .before .before .args .task - 1)) ≤ clockLimit + periodLimit
+small c = oldest-small (c .before .before .before .before .args .t1) (c .before .before .before .before .args .task) (c .before .before .before .before .args .time .0) (known c)
 
 sub-i : tie.Need-sub-i
 sub-i c = omega (arith, known c .from)
 
 mul-state : tie.Need-mul-state
-mul-state c = omega (arith, known c .below)
+mul-state c = omega (arith, below (c .before .before .before .before .args .t1) (c .before .before .before .before .args .task) (c .before .before .before .before .args .time .0) (known c))
 
 element-copy-out-state : tie.Need-element-copy-out-state
-element-copy-out-state c = omega (arith, known c .below)
+element-copy-out-state c = omega (arith, below (c .before .before .before .before .args .t1) (c .before .before .before .before .args .task) (c .before .before .before .before .args .time .0) (known c))
 
 finish-own-requires : tie.Need-finish-own-requires
 finish-own-requires c κs = search needs
@@ -55,24 +54,25 @@ element-copy-out-oldest : tie.Need-element-copy-out-oldest
 element-copy-out-oldest c = search needs
 
 cast-late : tie.Need-cast-late
-cast-late c = pos-fits (c .before .before .before .before .before .before .before .before .before .args .time .0) (omega (arith, known (c .before .before .before .before .before) .time))
+cast-late c = pos-fits (c .before .before .before .before .before .before .before .before .before .args .time .0) (omega (arith, known (c .before .before .before .before .before) .limit))
 
 cast-late-2 : tie.Need-cast-late-2
-cast-late-2 c = pos-fits (deadlineOf (stateAt (c .before .before .before .before .before .before .before .before .before .before .args .t1) (c .before .before .before .before .before .before .before .before .before .before .args .task - 1))) (omega (arith, ended (c .before .before .before) .1))
+cast-late-2 c = pos-fits (deadlineOf (stateAt (c .before .before .before .before .before .before .before .before .before .before .args .t1) (c .before .before .before .before .before .before .before .before .before .before .args .task - 1))) (omega (arith, small (c .before .before .before .before .before .before)))
 
 sub-late : tie.Need-sub-late
 sub-late c =
     let s = c .before .before .before .before .before .before .before .before .before .before .args in
-    sub-fits (s .time .0) (deadlineOf (stateAt (s .t1) (s .task - 1))) (omega (arith, known (c .before .before .before .before .before .before) .time)) (omega (arith, ended (c .before .before .before) .1))
+    sub-fits (s .time .0) (deadlineOf (stateAt (s .t1) (s .task - 1))) (omega (arith, known (c .before .before .before .before .before .before) .limit)) (omega (arith, small (c .before .before .before .before .before .before)))
 
 without-run-requires : tie.Need-without-run-requires
-without-run-requires c κs = ended (c .before .before .before) .0
+without-run-requires c κs =
+    can-finish (c .before .before .before .before .before .before .before .before .before .before .args .t1) (c .before .before .before .before .before .before .before .before .before .before .args .task) (c .before .before .before .before .before .before .before .before .before .before .args .time .0) (known (c .before .before .before .before .before .before)) (sym (c .before .before .before .before .finish-own .ensures) ∙ c .before .before .before .if2 .taken)
 
 mul-after : tie.Need-mul-after
-mul-after c = omega (arith, known (c .before .before .before .before .before .before .before) .below)
+mul-after c = omega (arith, below (c .before .before .before .before .before .before .before .before .before .before .before .args .t1) (c .before .before .before .before .before .before .before .before .before .before .before .args .task) (c .before .before .before .before .before .before .before .before .before .before .before .args .time .0) (known (c .before .before .before .before .before .before .before)))
 
 element-set-from-after : tie.Need-element-set-from-after
-element-set-from-after c = omega (arith, known (c .before .before .before .before .before .before .before) .below)
+element-set-from-after c = omega (arith, below (c .before .before .before .before .before .before .before .before .before .before .before .args .t1) (c .before .before .before .before .before .before .before .before .before .before .before .args .task) (c .before .before .before .before .before .before .before .before .before .before .before .args .time .0) (known (c .before .before .before .before .before .before .before)))
 
 returns : tie.Need-returns
 unfolding takeFinish
@@ -81,7 +81,7 @@ returns c =
     let st = stateAt (s .t1) (s .task - 1) in
     let e = c .before .before .before .before .if2 .taken in
     ap₂ (λ (n : ℕ) (z : ℤ). record { refusal = n; late = z; next = moved (s .t1) (s .task - 1) (c .without-run .result) (s .time .0) })
-    e (sub-is (s .time .0) (deadlineOf st) (omega (arith, known (c .before .before .before .before .before .before .before) .time)) (omega (arith, ended (c .before .before .before .before) .1)))
+    e (sub-is (s .time .0) (deadlineOf st) (omega (arith, known (c .before .before .before .before .before .before .before) .limit)) (omega (arith, small (c .before .before .before .before .before .before .before))))
     ∙ ap (λ (x : State). record { refusal = 0; late = subℕ (s .time .0) (deadlineOf st); next = moved (s .t1) (s .task - 1) x (s .time .0) }) (c .without-run .ensures)
     ∙ finish-taken (s .t1) (s .task) (s .time .0) (sym (own (c .before .before .before .before .before)) ∙ e)
 

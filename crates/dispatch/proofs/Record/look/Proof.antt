@@ -1,16 +1,16 @@
 use Rattle.dispatch.proofs.Looking.{best-more, best-task, choice-idle, choice-by}
 use Rattle.dispatch.proofs.Numbers.{look-first, look-refused, look-taken}
-use Rattle.dispatch.proofs.Passed.{look-passed, waits-due}
+use Rattle.dispatch.proofs.Passed.{Passed, look-passed}
+use Rattle.dispatch.proofs.Held.{held, waits-due}
+use Rattle.soundness.proofs.Facts.{cores-few}
 use Rattle.dispatch.specs.Look.{bestOf, choiceOf, atTime}
 use Rattle.dispatch.specs.Refusals.{lookNo}
-use Rattle.dispatch.specs.Sound.{soundOf}
 use Rattle.dispatch.specs.declared.look.Choice.{Choice}
-use Rattle.units.specs.Limits.{coresLimit, tasksLimit}
+use Rattle.units.specs.Limits.{tasksLimit}
 use native.Mathlib.Omega.{arith}
-use mathlib.Core.Bool.{true}
 use mathlib.Core.Logic.{⊎-elim}
 use mathlib.Core.Path.{_≡_, refl, sym, ap, ap₂, _∙_}
-use Prim.Native.Nat.{ℕ, _-_, _≤_, _<_}
+use Prim.Native.Nat.{ℕ, _-_, _≤_}
 use borrow.Author.Needs.{needs}
 use Rattle.dispatch.proofs.Record.look.Statement.{statement}
 use Rattle.dispatch.proofs.Record.look.Tie as tie
@@ -32,7 +32,7 @@ first : (c : tie.After-first-no Inv-loop μ-loop) → c .first-no .result ≡ lo
 first c = look-first (c .before .before .before .args .t1) (c .before .before .before .args .core) (c .before .before .before .args .time .0) (c .before .sound .result) (c .first-no .result) (c .before .sound .ensures) (c .first-no .ensures)
 
 -- what is known after that
-known : (c : tie.Then1 Inv-loop μ-loop) → (soundOf (c .before .before .before .before .args .t1) ≡ true) × (0 < c .before .before .before .before .args .core) × (c .before .before .before .before .args .core ≤ coresLimit)
+known : (c : tie.Then1 Inv-loop μ-loop) → Passed (c .before .before .before .before .args .t1) (c .before .before .before .before .args .t1 .plan .cores) (c .before .before .before .before .args .core) (c .before .before .before .before .args .time .0)
 known c = look-passed (c .before .before .before .before .args .t1) (c .before .before .before .before .args .core) (c .before .before .before .before .args .time .0) (sym (first (c .before)) ∙ c .if1 .taken)
 
 loop-holds : tie.Need-loop-holds Inv-loop μ-loop
@@ -58,7 +58,8 @@ better-requires : tie.Need-better-requires Inv-loop μ-loop
 better-requires c κs =
     let s = c .before .before .before .before .before .before .before .before .before .args in
     let k = known (c .before .before .before .before .before) in
-    (k .1, k .2, waits-due (s .t1) (k .0) (c .before .before .before .loop .i) (s .core) (omega arith))
+    let h = held (s .t1) (k .sound) in
+    (k .from, omega (arith, k .to, cores-few (s .t1 .plan) (h .plan)), waits-due (s .t1) h (c .before .before .before .loop .i) (s .core) (omega arith))
 
 loop-less : tie.Need-loop-less Inv-loop μ-loop
 loop-less c = omega arith

@@ -1,12 +1,11 @@
-use Rattle.dispatch.proofs.Passed.{Passed, passed, release-passed, plan-sound, state-sound}
+use Rattle.dispatch.proofs.Passed.{Passed, task-passed}
+use Rattle.dispatch.proofs.Called.{below, period, state, can-release}
 use Rattle.dispatch.proofs.Numbers.{task-first, release-first, release-own, release-refused, release-taken}
-use Rattle.dispatch.specs.Record.{lineAt, stateAt, moved}
+use Rattle.dispatch.specs.Record.{moved}
 use Rattle.dispatch.specs.Refusals.{taskNo, releaseNo}
 use Rattle.dispatch.specs.Release.{takeRelease, refuseRelease}
 use Rattle.state.specs.Runs.{takenRun}
 use Rattle.state.specs.declared.runs.Taken.{Taken}
-use Rattle.state.proofs.Facts.{facts}
-use Rattle.soundness.proofs.Facts.{period-small}
 use native.Mathlib.Omega.{arith}
 use mathlib.Core.Path.{_≡_, sym, ap₂, _∙_}
 use Prim.Native.Nat.{ℕ, _-_}
@@ -27,8 +26,8 @@ first c =
     task-first (s .t1) (s .task) (s .time .0) (c .before .sound .result) (c .first-no .result) (c .before .sound .ensures) (c .first-no .ensures)
 
 -- what is known after that
-known : (c : tie.Then1) → Passed (c .before .before .before .before .args .t1) (c .before .before .before .before .args .task) (c .before .before .before .before .args .time .0)
-known c = passed (c .before .before .before .before .args .t1) (c .before .before .before .before .args .task) (c .before .before .before .before .args .time .0) (sym (first (c .before)) ∙ c .if1 .taken)
+known : (c : tie.Then1) → Passed (c .before .before .before .before .args .t1) (c .before .before .before .before .args .t1 .plan .count) (c .before .before .before .before .args .task) (c .before .before .before .before .args .time .0)
+known c = task-passed (c .before .before .before .before .args .t1) (c .before .before .before .before .args .task) (c .before .before .before .before .args .time .0) (sym (first (c .before)) ∙ c .if1 .taken)
 
 -- the release's number
 own : (c : tie.After-release-own) → c .release-own .result ≡ releaseNo (c .before .before .before .before .before .before .before .before .args .t1) (c .before .before .before .before .before .before .before .before .args .task) (c .before .before .before .before .before .before .before .before .args .time .0)
@@ -40,34 +39,33 @@ sub-i : tie.Need-sub-i
 sub-i c = omega (arith, known c .from)
 
 mul-line : tie.Need-mul-line
-mul-line c = omega (arith, known (c .before) .below)
+mul-line c = omega (arith, below (c .before .before .before .before .before .args .t1) (c .before .before .before .before .before .args .task) (c .before .before .before .before .before .args .time .0) (known (c .before)))
 
 array-copy-out-line : tie.Need-array-copy-out-line
-array-copy-out-line c = omega (arith, known (c .before) .below)
+array-copy-out-line c = omega (arith, below (c .before .before .before .before .before .args .t1) (c .before .before .before .before .before .args .task) (c .before .before .before .before .before .args .time .0) (known (c .before)))
 
 mul-state : tie.Need-mul-state
-mul-state c = omega (arith, known (c .before .before) .below)
+mul-state c = omega (arith, below (c .before .before .before .before .before .before .args .t1) (c .before .before .before .before .before .before .args .task) (c .before .before .before .before .before .before .args .time .0) (known (c .before .before)))
 
 element-copy-out-state : tie.Need-element-copy-out-state
-element-copy-out-state c = omega (arith, known (c .before .before) .below)
+element-copy-out-state c = omega (arith, below (c .before .before .before .before .before .before .args .t1) (c .before .before .before .before .before .before .args .task) (c .before .before .before .before .before .before .args .time .0) (known (c .before .before)))
 
 release-own-requires : tie.Need-release-own-requires
 release-own-requires c κs =
     let s = c .before .before .before .before .before .before .before .args in
     let p = known (c .before .before .before) in
-    let i = s .task - 1 in (
-      facts (lineAt (s .t1) i) (stateAt (s .t1) i) (state-sound (s .t1) (p .sound) i (p .here)) .last,
-      period-small (s .t1 .plan) (plan-sound (s .t1) (p .sound)) i (p .here),
-    )
+    (state (s .t1) (s .task) (s .time .0) p .last, period (s .t1) (s .task) (s .time .0) p)
 
 with-run-requires : tie.Need-with-run-requires
-with-run-requires c κs = release-passed (c .before .before .before .before .before .before .before .before .before .args .t1) (c .before .before .before .before .before .before .before .before .before .args .task) (c .before .before .before .before .before .before .before .before .before .args .time .0) (sym (own (c .before)) ∙ c .if2 .taken) .1
+with-run-requires c κs =
+    let s = c .before .before .before .before .before .before .before .before .before .args in
+    can-release (s .t1) (s .task) (s .time .0) (known (c .before .before .before .before .before)) (sym (c .before .release-own .ensures) ∙ c .if2 .taken)
 
 mul-after : tie.Need-mul-after
-mul-after c = omega (arith, known (c .before .before .before .before .before .before .before .before) .below)
+mul-after c = omega (arith, below (c .before .before .before .before .before .before .before .before .before .before .before .before .args .t1) (c .before .before .before .before .before .before .before .before .before .before .before .before .args .task) (c .before .before .before .before .before .before .before .before .before .before .before .before .args .time .0) (known (c .before .before .before .before .before .before .before .before)))
 
 element-set-from-after : tie.Need-element-set-from-after
-element-set-from-after c = omega (arith, known (c .before .before .before .before .before .before .before .before) .below)
+element-set-from-after c = omega (arith, below (c .before .before .before .before .before .before .before .before .before .before .before .before .args .t1) (c .before .before .before .before .before .before .before .before .before .before .before .before .args .task) (c .before .before .before .before .before .before .before .before .before .before .before .before .args .time .0) (known (c .before .before .before .before .before .before .before .before)))
 
 returns : tie.Need-returns
 unfolding takeRelease takenRun

@@ -1,7 +1,7 @@
 -- `listing::listed::list` meets its contract.
 use mathlib.Core.Path.{sym, _∙_}
 use borrow.Author.Tests.{not-true, not-false}
-use Rattle.dispatched.proofs.Records.{held}
+use Rattle.dispatch.proofs.Held.{held}
 use Rattle.listing.proofs.Answers.{unsound, sound}
 use borrow.Author.Needs.{needs}
 use Rattle.listing.proofs.listed.list.Statement.{statement}

@@ -1,0 +1,81 @@
+-- What a sound record holds.
+use Prim.Native.Nat.{ℕ, _+_, _≤_, _<_}
+use mathlib.Core.Path.{_≡_}
+use mathlib.Core.Bool.{true, not, _&&_}
+use native.Mathlib.Omega.{arith}
+use lib.Dec.{ltb, eqb}
+use borrow.Author.Tests.{eqb-true, ltb-true, ltb-false, leb-true, lt-ltb, le-ltb, le-leb}
+use Rattle.units.specs.Limits.{tasksLimit, periodLimit, clockLimit}
+use Rattle.lists.specs.Lists.{sum}
+use Rattle.lists.specs.Below.{allBelow}
+use Rattle.lists.proofs.Tests.{by-cases, and-left, and-right, and-true}
+use Rattle.lists.proofs.Below.{all-at, all-from}
+use Rattle.soundness.specs.Plan.{planSound}
+use Rattle.soundness.proofs.Facts.{tasks-few, period-small}
+use Rattle.state.specs.State.{runAt}
+use Rattle.state.specs.Sound.{stateSound, runsEmpty, stateEmpty}
+use Rattle.state.specs.Key.{deadlineOf, waits}
+use Rattle.state.proofs.Facts.{facts, oldest-due}
+use Rattle.dispatch.specs.declared.Record.{Record}
+use Rattle.dispatch.specs.Record.{lineAt, stateAt}
+use Rattle.dispatch.specs.Sound.{clockIn, stateOk, soundOf}
+
+-- its clock, its plan and its states
+pub record Held (r : Record) : Type 0 where
+  pub clock : r .clock .0 ≤ clockLimit
+  pub plan : planSound (r .plan) ≡ true
+  pub states : (i : ℕ) → i < tasksLimit → stateOk (r .plan) (r .states) i ≡ true
+
+-- soundness says them
+pub held : (r : Record) → soundOf r ≡ true → Held r
+unfolding soundOf
+held r e =
+    let a = clockIn r in
+    let b = planSound (r .plan) in
+    let c = allBelow tasksLimit (stateOk (r .plan) (r .states)) in
+    let ab = and-left (a && b) c e in
+    record {
+      clock = leb-true (r .clock .0) clockLimit (and-left a b ab);
+      plan = and-right a b ab;
+      states = λ i h. all-at tasksLimit i (stateOk (r .plan) (r .states)) h (and-right (a && b) c e);
+    }
+
+-- and they say it
+pub sound : (r : Record) → Held r → soundOf r ≡ true
+unfolding soundOf
+sound r h =
+    let a = clockIn r in
+    let b = planSound (r .plan) in
+    let c = allBelow tasksLimit (stateOk (r .plan) (r .states)) in
+    and-true (a && b) c
+    (and-true a b (le-leb (r .clock .0) clockLimit (h .clock)) (h .plan))
+    (all-from tasksLimit (stateOk (r .plan) (r .states)) (h .states))
+
+module _ (r : Record) (k : Held r) (i : ℕ) where
+  module _ (h : i < r .plan .count) where
+    -- a task's number is below the limit
+    pub task-below : i < tasksLimit
+    task-below = omega (arith, tasks-few (r .plan) (k .plan))
+
+    -- its state is sound
+    pub state-sound : stateSound (lineAt r i) (stateAt r i) ≡ true
+    state-sound = rw (lt-ltb i (r .plan .count) h) at (k .states i task-below)
+
+    -- and the deadline of its oldest run is small
+    pub due-small : deadlineOf (stateAt r i) ≤ clockLimit + periodLimit
+    due-small = omega (arith, oldest-due (lineAt r i) (stateAt r i) (facts (lineAt r i) (stateAt r i) state-sound), period-small (r .plan) (k .plan) i h)
+
+  -- a task past the N has no run
+  no-run : r .plan .count ≤ i → i < tasksLimit → stateAt r i .live ≡ 0
+  no-run h l =
+      let st = stateAt r i in
+      let e : stateEmpty st ≡ true = rw (le-ltb i (r .plan .count) h) at (k .states i l) in
+      let a = eqb (sum (st .counts)) 0 && eqb (st .place) 0 && eqb (st .last .0) 0 && not (st .had) in
+      eqb-true (st .live) 0 (and-right a (eqb (st .live) 0) (and-left (a && eqb (st .live) 0) (runsEmpty st) e))
+
+  -- a task that waits has a deadline that is small
+  pub waits-due : (core : ℕ) → i < tasksLimit → waits (stateAt r i) core ≡ true → deadlineOf (stateAt r i) ≤ clockLimit + periodLimit
+  waits-due core h w =
+      by-cases (ltb i (r .plan .count))
+      (λ e. due-small (ltb-true i (r .plan .count) e))
+      (λ e. absurd (omega (arith, no-run (ltb-false i (r .plan .count) e) h, ltb-true 0 (stateAt r i .live) (and-left (ltb 0 (stateAt r i .live)) (eqb (runAt (stateAt r i) 0 .core) core) w))))
