@@ -26,7 +26,7 @@ use Rattle.soundness.proofs.Facts.{ruled}
 use Rattle.planned.proofs.Lines.{zero-row}
 use Rattle.dispatch.specs.declared.Record.{Record}
 use Rattle.dispatched.specs.Shape.{PlanShaped, Good}
-use Rattle.dispatched.proofs.Records.{held}
+use Rattle.dispatch.proofs.Held.{held}
 use Rattle.listing.specs.Listing.{headText, taskText, tasksText, listingText}
 use Rattle.written.proofs.Digits.{field-cut}
 use Rattle.written.proofs.Line.{task-cut, line-same}
