@@ -7,19 +7,54 @@ pub struct Bench {
     pub table: Vec<u32>,
 }
 
-/// Sixteen cores and sixty-four tasks: twenty of 3/5 and forty-four of 1/11, which fill the box; twelve move.
-pub fn full() -> Bench {
-    let mut table = [54_000, 90_000].repeat(20);
-    table.extend([9_000, 99_000].repeat(44));
-    Bench { cores: 16, table }
+/// The common period of every box.
+pub const COMMON: u64 = 720_720;
+
+/// Numbers that look like chance, the same in each run.
+struct Chance(u64);
+
+impl Chance {
+    fn below(&mut self, n: u64) -> u64 {
+        self.0 = self
+            .0
+            .wrapping_mul(6_364_136_223_846_793_005)
+            .wrapping_add(1_442_695_040_888_963_407);
+        (self.0 >> 33) % n
+    }
 }
 
-/// So many tasks, of which some move, on so many cores.
-pub fn sized(tasks: usize, cores: u32) -> Bench {
-    let heavy = (cores as usize * 5 / 4).min(tasks);
-    let mut table = [54_000, 90_000].repeat(heavy);
-    table.extend([900, 99_000].repeat(tasks - heavy));
-    Bench { cores, table }
+/// Sixteen cores and sixty-four tasks of as many weights in any order, which fill the box; fourteen move.
+pub fn full() -> Bench {
+    sized(64, 16)
+}
+
+/// So many tasks on so many cores: for two cores three tasks of about 11/20, light ones for the rest, and one for what is left.
+pub fn sized(tasks: u64, cores: u64) -> Bench {
+    let mut chance = Chance(3);
+    let periods: Vec<u64> = (5_000..COMMON).filter(|t| COMMON % t == 0).collect();
+    let heavy = cores * 3 / 2;
+    let mut left = cores * COMMON;
+    let mut pairs = Vec::new();
+    for i in 0..tasks - 1 {
+        let period = periods[chance.below(periods.len() as u64) as usize];
+        let thousandths = if i < heavy {
+            500 + chance.below(120)
+        } else {
+            let mean = 1_000 * left / COMMON / (tasks - i);
+            mean / 2 + chance.below(mean + 1)
+        };
+        let cost = (thousandths * period / 1_000).max(1);
+        left -= cost * (COMMON / period);
+        pairs.push([cost as u32, period as u32]);
+    }
+    pairs.push([left.min(COMMON) as u32, COMMON as u32]);
+    for i in (1..pairs.len()).rev() {
+        pairs.swap(i, chance.below(i as u64 + 1) as usize);
+    }
+    Bench {
+        cores: cores as u32,
+        table: pairs.concat(),
+    }
 }
 
 /// One call: `r` release, `f` finish or `l` look, its task or core, and its time.
@@ -33,7 +68,7 @@ impl Bench {
     /// So many releases of each task.
     pub fn releases(&self, each: u64) -> Vec<Call> {
         (0..each)
-            .flat_map(|k| (1..=self.tasks()).map(move |task| ('r', task, k * 99_000)))
+            .flat_map(|k| (1..=self.tasks()).map(move |task| ('r', task, k * COMMON)))
             .collect()
     }
 
@@ -42,7 +77,7 @@ impl Bench {
         let mut calls = self.releases(each);
         calls
             .extend((0..each).flat_map(|k| {
-                (1..=self.tasks()).map(move |task| ('f', task, (each + k) * 99_000))
+                (1..=self.tasks()).map(move |task| ('f', task, (each + k) * COMMON))
             }));
         calls
     }
@@ -51,7 +86,7 @@ impl Bench {
     pub fn looks(&self, number: u64) -> Vec<Call> {
         let mut calls = self.releases(2);
         let cores = u64::from(self.cores);
-        calls.extend((0..number).map(|k| ('l', 1 + k % cores, 99_000 + k)));
+        calls.extend((0..number).map(|k| ('l', 1 + k % cores, COMMON + k)));
         calls
     }
 

@@ -7,8 +7,8 @@ mod theirs;
 
 use boxes::{full, sized, Bench, Call};
 
-/// How often each figure is taken; the median is shown.
-const TIMES: usize = 7;
+/// How often each figure is taken, in turn; the least is shown, which other work on the machine disturbs least.
+const TIMES: usize = 15;
 
 /// A figure: its kind, the rounds of a lap, the calls, and calls whose time is taken off.
 struct Figure {
@@ -43,7 +43,7 @@ impl Figure {
 
     /// A line `name ours second ratio`, with the spread of the ratio.
     fn show(&self, name: &str, command: &[String], bench: &Bench) {
-        let mut both: Vec<(f64, f64)> = (0..TIMES)
+        let both: Vec<(f64, f64)> = (0..TIMES)
             .map(|_| {
                 (
                     self.each(|calls| ours::round(command, bench, self.kind, self.rounds, calls)),
@@ -51,14 +51,14 @@ impl Figure {
                 )
             })
             .collect();
-        both.sort_by(|a, b| (a.0 / a.1).total_cmp(&(b.0 / b.1)));
-        let ratio = |k: usize| both[k].0 / both[k].1;
-        let (ours, theirs) = both[TIMES / 2];
+        let least = |times: &mut dyn Iterator<Item = f64>| times.fold(f64::INFINITY, f64::min);
+        let ours = least(&mut both.iter().map(|pair| pair.0));
+        let theirs = least(&mut both.iter().map(|pair| pair.1));
+        let low = least(&mut both.iter().map(|pair| pair.0 / pair.1));
+        let high = 1.0 / least(&mut both.iter().map(|pair| pair.1 / pair.0));
         println!(
-            "{name} {ours:.0} {theirs:.0} {:.2} ({:.2} to {:.2})",
-            ratio(TIMES / 2),
-            ratio(0),
-            ratio(TIMES - 1)
+            "{name} {ours:.0} {theirs:.0} {:.2} ({low:.2} to {high:.2})",
+            ours / theirs
         );
     }
 }
