@@ -21,6 +21,20 @@ digit-more n h = rw (decimal-large n h, length-append) (omega arith)
 pub some-digit : (n : ℕ) → 0 < length (decimalOf n)
 some-digit n = either n 10 (λ h. omega (arith, one-digit n h)) (λ h. omega (arith, digit-more n h))
 
+-- and one of three or more has two more than its hundredth
+pub digits-more : (n : ℕ) → 100 ≤ n → length (decimalOf n) ≡ length (decimalOf (n / 100)) + 2
+digits-more n h =
+    let e : n / 10 / 10 ≡ n / 100 = omega arith in
+    omega (arith, digit-more n (omega arith), digit-more (n / 10) (omega arith), ap (λ (m : ℕ). length (decimalOf m)) e)
+
+-- a number of more than one digit is not below ten
+pub long-large : (n : ℕ) → 1 < length (decimalOf n) → 10 ≤ n
+long-large n p = either n 10 (λ h. absurd (omega (arith, one-digit n h))) (λ h. h)
+
+-- a number of one digit is
+pub short-small : (n : ℕ) → length (decimalOf n) ≤ 1 → n < 10
+short-small n p = either n 10 (λ h. h) (λ h. absurd (omega (arith, digit-more n h, some-digit (n / 10))))
+
 -- a store behind a run of stores may come first
 set-behind : (l : List ℕ) (i : ℕ) (xs : List ℕ) (j v : ℕ) → i + length xs ≤ j → set (sets l i xs) j v ≡ sets (set l j v) i xs
 set-behind l i [] j v h = refl

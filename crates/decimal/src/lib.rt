@@ -60,14 +60,14 @@ fn digits_of(n: u64) -> usize
 {
     let mut left = n;
     let mut count = 1;
-    while 10 <= left {
-        left = left / 10;
-        count += 1;
+    while 100 <= left {
+        left = left / 100;
+        count += 2;
     }
-    count
+    if left < 10 { count } else { count + 1 }
 }
 
-// A number in decimal where its digits fit, the last digit first.
+// A number in decimal where its digits fit, the last digit first. The loop's end is known before the divisions are.
 fn put_digits(buf: &mut [u8], at: usize, n: u64, count: usize) -> usize
     requires { ⌜ count ≡ length (decimalOf n) ⌝ }
     requires { ⌜ at + count ≤ length (now buf) ⌝ }
@@ -76,7 +76,7 @@ fn put_digits(buf: &mut [u8], at: usize, n: u64, count: usize) -> usize
     let next = at + count;
     let mut rest = n;
     let mut i = next - 1;
-    while rest >= 10 {
+    while at < i {
         let digit = 48 + (rest % 10) as u8;
         buf[i] = digit;
         rest = rest / 10;

@@ -6,7 +6,7 @@ use mathlib.Core.Path.{_≡_, _∙_, refl}
 use lib.ListN.{length, length-set}
 use lib.Seq.{sets}
 use Rattle.decimal.specs.Decimal.{decimalOf}
-use Rattle.decimal.proofs.Digits.{digit-more, some-digit, last-first, first-last}
+use Rattle.decimal.proofs.Digits.{digit-more, some-digit, long-large, short-small, last-first, first-last}
 use Rattle.decimal.proofs.put_digits.Statement.{statement}
 use Rattle.decimal.proofs.put_digits.Tie as tie
 
@@ -16,6 +16,14 @@ Inv-loop buf₀ at n count next rest₀ i₀ buf rest i =
 
 abbrev μ-loop : tie.MeasureT-loop
 μ-loop buf₀ at n count next rest₀ i₀ buf rest i = rest
+
+-- in the loop more than one digit is left
+large : (c : tie.In-loop Inv-loop μ-loop) → 10 ≤ c .before .loop .rest
+large c = long-large (c .before .loop .rest) (omega arith)
+
+-- after it one is
+small : (c : tie.After-loop Inv-loop μ-loop) → c .before .loop .rest < 10
+small c = short-small (c .before .loop .rest) (omega arith)
 
 add-next : tie.Need-add-next Inv-loop μ-loop
 add-next c = search needs
@@ -38,18 +46,16 @@ slice-write-buf : tie.Need-slice-write-buf Inv-loop μ-loop
 slice-write-buf c = search needs
 
 sub-i-2 : tie.Need-sub-i-2 Inv-loop μ-loop
-sub-i-2 c =
-    let m = c .before .loop .rest in
-    omega (arith, digit-more m (omega arith), some-digit (m / 10))
+sub-i-2 c = omega arith
 
 loop-less : tie.Need-loop-less Inv-loop μ-loop
-loop-less c = search needs
+loop-less c = omega (arith, large c)
 
 loop-again : tie.Need-loop-again Inv-loop μ-loop
 loop-again c =
     let l = c .before .loop in
     let s = c .before .before in
-    let h : 10 ≤ l .rest = omega arith in
+    let h = large c in
     let g = digit-more (l .rest) h in
     let p = some-digit (l .rest / 10) in (
       omega (arith, g, p),
@@ -59,10 +65,10 @@ loop-again c =
     )
 
 cast-digit-2 : tie.Need-cast-digit-2 Inv-loop μ-loop
-cast-digit-2 c = search needs
+cast-digit-2 c = record { fits = omega (arith, small c) }
 
 add-digit-2 : tie.Need-add-digit-2 Inv-loop μ-loop
-add-digit-2 c = search needs
+add-digit-2 c = record { fits = omega (arith, small c) }
 
 slice-write-buf-2 : tie.Need-slice-write-buf-2 Inv-loop μ-loop
 slice-write-buf-2 c = search needs
@@ -75,7 +81,7 @@ returns c =
     let l = c .before .loop in
     let s = c .before .before in
     record {
-      bytes = first-last (l .buf) (s .args .at) (l .rest) (l .i) (omega arith) (l .inv .0) ∙ l .inv .3;
+      bytes = first-last (l .buf) (s .args .at) (l .rest) (l .i) (small c) (l .inv .0) ∙ l .inv .3;
       end = omega arith;
     }
 
