@@ -6,20 +6,20 @@ use native.Mathlib.Omega.{arith}
 use native.Mathlib.Nat.{mul-le-mul}
 use Rattle.units.specs.Limits.{periodLimit, commonLimit}
 use Rattle.arith.specs.Ceiling.{ceilDiv}
-use Rattle.planning.specs.declared.Line.{Line}
-use Rattle.lateness.specs.Lateness.{push}
+use Rattle.lateness.specs.declared.movers.Mover.{Mover}
+use Rattle.lateness.specs.Cores.{pushBy}
 use Rattle.lateness.specs.Small.{reachLimit, Small, SmallPair}
 
 -- s × (D + 2T) of a mover
-pub push-le : {rs : List ℕ} {p : ℕ} {ln : Line} → Small rs p ln → push rs p ln ≤ commonLimit * (reachLimit + periodLimit)
+pub push-le : {rs : List ℕ} {m : Mover} → Small rs m → pushBy rs m ≤ commonLimit * (reachLimit + periodLimit)
 push-le k = mul-le-mul {n₂ = commonLimit} {m₂ = reachLimit + periodLimit} (k .share) (omega (arith, k .reach, k .period))
 
 -- that of both movers, and L × 2C of both
-pub work-le : {l : ℕ} {rs : List ℕ} {p : ℕ} {h ln : Line} → SmallPair l rs p h ln
-    → push rs p h + push rs p ln + l * (2 * h .cost .0 + 2 * ln .cost .0)
+pub work-le : {l : ℕ} {rs : List ℕ} {h m : Mover} → SmallPair l rs h m
+    → pushBy rs h + pushBy rs m + l * (2 * h .cost + 2 * m .cost)
     ≤ 2 * (commonLimit * (reachLimit + periodLimit)) + commonLimit * (4 * periodLimit)
-work-le {l} {rs} {p} {h} {ln} k =
-    let own : l * (2 * h .cost .0 + 2 * ln .cost .0) ≤ commonLimit * (4 * periodLimit) =
+work-le {l} {rs} {h} {m} k =
+    let own : l * (2 * h .cost + 2 * m .cost) ≤ commonLimit * (4 * periodLimit) =
     mul-le-mul {n₂ = commonLimit} {m₂ = 4 * periodLimit} (k .common) (omega (arith, k .upper .cost, k .lower .cost)) in
     omega (arith, push-le (k .upper), push-le (k .lower))
 

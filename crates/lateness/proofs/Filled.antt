@@ -1,11 +1,11 @@
 -- An array of n places, filled in turn: p are done, the others are as they were.
 use Prim.Native.Nat.{ℕ, _+_, _≤_, _<_}
-use mathlib.Core.Path.{_≡_, refl, sym, _∙_}
-use mathlib.Core.List.{List, map}
+use mathlib.Core.Path.{_≡_, refl, _∙_}
+use mathlib.Core.List.{List}
 use native.Mathlib.Omega.{arith}
 use lib.Dec.{eqb}
-use lib.ListN.{length, getD, set, length-set, length-map, List·getD-map}
-use lib.Seq.{getD-set-same, getD-set-other, ext-getD}
+use lib.ListN.{length, getD, set, length-set}
+use lib.Seq.{getD-set-same, getD-set-other}
 use borrow.Author.Tests.{eqb-true, eqb-false}
 use Rattle.lists.proofs.Tests.{by-cases}
 
@@ -44,10 +44,3 @@ module _ {A : Type 0} (d : A) (n : ℕ) (f : ℕ → A) (old : List A) where
           (λ t. k .done q (omega (arith, eqb-false q p t)));
       kept = λ q l. k .kept q (omega arith);
     }
-
--- all are done, each from its own place in a list
-pub filled-map : {A B : Type 0} (g : A → B) (d : A) (xs : List A) (n : ℕ) (old : List B) (p : ℕ) (new : List B)
-    → Filled (g d) n (λ j. g (getD xs j d)) old p new → length xs ≡ n → n ≤ p → new ≡ map g xs
-filled-map g d xs n old p new k e h =
-    ext-getD (g d) new (map g xs) (k .long ∙ sym e ∙ sym (length-map xs g))
-    (λ q l. k .done q (omega (arith, k .long)) ∙ sym (List·getD-map g xs q d))

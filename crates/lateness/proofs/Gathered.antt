@@ -1,6 +1,7 @@
 -- The movers of each core, gathered from the last line to the first.
 use Prim.Native.Nat.{ℕ, _+_, _≤_, _<_}
-use mathlib.Core.Path.{refl}
+use mathlib.Core.Path.{_≡_, refl, sym, ap, _∙_}
+use mathlib.Core.Bool.{Bool, true, false, cond}
 use mathlib.Core.List.{List}
 use native.Mathlib.Numerals.{add-one}
 use lib.ListN.{length, getD, drop, replicate, drop-of-length-le, getD-replicate}
@@ -10,23 +11,40 @@ use Rattle.units.specs.Limits.{coresLimit}
 use Rattle.lists.specs.Lists.{parts}
 use Rattle.planning.specs.declared.Line.{Line}
 use Rattle.planning.specs.Plan.{noLine, emptyLine, rowOf}
+use Rattle.assignment.specs.Movers.{upper, lower}
+use Rattle.lateness.specs.declared.movers.Mover.{Mover}
 use Rattle.lateness.specs.declared.movers.Movers.{Movers}
-use Rattle.lateness.specs.Cores.{WithLine, MoversOf}
+use Rattle.lateness.specs.Lateness.{upperOn, lowerOn}
+use Rattle.lateness.specs.Cores.{moverOn, noMover, WithLine, MoversOf}
+use Rattle.lateness.proofs.Pair.{empty-share}
+
+-- the empty line as a mover
+abbrev pub nobody : Mover
+nobody = record { share = 0; cost = 0; period = 0; first = coresLimit }
+
+empty-mover : (p : ℕ) → nobody ≡ moverOn p emptyLine
+unfolding emptyLine
+empty-mover p = ap (λ (s : ℕ). record { share = s; cost = 0; period = 0; first = coresLimit }) (sym (empty-share p))
 
 -- no line, no mover
 pub gathered-none : (lns : List Line) (i : ℕ) → length lns ≤ i
-    → MoversOf (drop i lns) (record { upper = replicate coresLimit emptyLine; lower = replicate coresLimit emptyLine })
+    → MoversOf (drop i lns) (record { upper = replicate coresLimit nobody; lower = replicate coresLimit nobody })
 gathered-none lns i h = rw (drop-of-length-le lns h) (record {
-  uppers = λ p k. getD-replicate coresLimit p emptyLine noLine k;
-  lowers = λ p k. getD-replicate coresLimit p emptyLine noLine k;
+  uppers = λ p k. getD-replicate coresLimit p nobody noMover k ∙ empty-mover p;
+  lowers = λ p k. getD-replicate coresLimit p nobody noMover k ∙ empty-mover p;
 })
+
+-- the line in front, or the first of the others
+chosen : (b : Bool) (p : ℕ) (ln rest : Line) {m : Mover} → m ≡ moverOn p rest → cond b (moverOn p ln) m ≡ moverOn p (cond b ln rest)
+chosen true p ln rest e = refl
+chosen false p ln rest e = e
 
 -- a line more
 pub gathered-next : (lns : List Line) (i : ℕ) (ms new : Movers) → i < length lns → MoversOf (drop (i + 1) lns) ms
     → WithLine ms (getD lns i noLine) new → MoversOf (drop i lns) new
 gathered-next lns i ms new h k w = rw (drop-cons lns i noLine h, ← (add-one i)) (record {
-  uppers = λ p l. rw (← (k .uppers p l)) (w .uppers p l);
-  lowers = λ p l. rw (← (k .lowers p l)) (w .lowers p l);
+  uppers = λ p l. w .uppers p l ∙ chosen (upper p (rowOf (getD lns i noLine))) p (getD lns i noLine) (upperOn p (drop (i + 1) lns)) (k .uppers p l);
+  lowers = λ p l. w .lowers p l ∙ chosen (lower p (rowOf (getD lns i noLine))) p (getD lns i noLine) (lowerOn p (drop (i + 1) lns)) (k .lowers p l);
 })
 
 -- a line that does not move changes nothing

@@ -1,4 +1,5 @@
 pub mod Filled
+pub mod Noted
 pub mod Front
 pub mod Gathered
 pub mod Pair

@@ -1,6 +1,6 @@
 -- The movers of a plan that keeps what a plan has to keep: their shares leave room, their costs and periods are small.
 use Prim.Native.Nat.{ℕ, _+_, _*_, _≤_, _<_}
-use mathlib.Core.Path.{_≡_, sym, ap₂, _∙_}
+use mathlib.Core.Path.{_≡_, refl, sym, ap₂, _∙_}
 use mathlib.Core.List.{List}
 use native.Mathlib.Omega.{arith}
 use lib.ListN.{getD}
@@ -12,11 +12,11 @@ use Rattle.assignment.specs.Movers.{firstCore, upper, lower}
 use Rattle.placed.proofs.Properties.{halves, one-upper, one-lower, no-mover}
 use Rattle.planning.specs.declared.Line.{Line}
 use Rattle.planning.specs.declared.Plan.{Plan}
-use Rattle.planning.specs.Plan.{emptyLine, noLine, rowOf}
+use Rattle.planning.specs.Plan.{emptyLine, rowOf}
 use Rattle.planning.specs.Kept.{PlanKept}
 use Rattle.lateness.specs.declared.movers.Movers.{Movers}
 use Rattle.lateness.specs.Lateness.{upperOn, lowerOn, shareOn, push, reachOn, fixedLate}
-use Rattle.lateness.specs.Cores.{MoversOf, pairLate}
+use Rattle.lateness.specs.Cores.{moverOn, noMover, MoversOf, reachBy, pairLate}
 use Rattle.lateness.specs.Small.{reachLimit, SmallPair}
 use Rattle.lateness.proofs.Words.{fixed-alone}
 use Rattle.lateness.proofs.Pair.{empty-share, empty-load, first-share, first-le, over-pair}
@@ -49,7 +49,7 @@ module _ (pl : Plan) (k : PlanKept pl) (p : ℕ) where
 
   -- a fixed task's bound, from the two
   pub fixed-pair : (rs : List ℕ)
-      → fixedLate (pl .common) rs (pl .lines) p ≡ pairLate (pl .common) rs p (upperOn p (pl .lines)) (lowerOn p (pl .lines))
+      → fixedLate (pl .common) rs (pl .lines) p ≡ pairLate (pl .common) rs (moverOn p (upperOn p (pl .lines))) (moverOn p (lowerOn p (pl .lines)))
   unfolding fixedLate
   fixed-pair rs =
       let u = one-upper (k .structure) p in
@@ -63,29 +63,29 @@ module _ (pl : Plan) (k : PlanKept pl) (p : ℕ) where
   fixed-beyond rs h = fixed-alone (pl .common) (k .common-some) rs (pl .lines) p (no-mover (k .structure) p (omega (arith, k .cores-few)))
 
   -- numbers small enough to work with
-  small-pair : (rs : List ℕ) → most rs ≤ reachLimit → p < coresLimit
-      → SmallPair (pl .common) rs p (upperOn p (pl .lines)) (lowerOn p (pl .lines))
-  small-pair rs b h =
+  small-pair : (rs : List ℕ) → most rs ≤ reachLimit → SmallPair (pl .common) rs (moverOn p (upperOn p (pl .lines))) (moverOn p (lowerOn p (pl .lines)))
+  small-pair rs b =
       let m = modest in
       let l = k .common-small in
       record {
         common = l;
         room = omega arith;
-        upper = record { core = h; share = omega arith; reach = omega (arith, most-ge rs (firstCore (rowOf (upperOn p (pl .lines))))); period = m .upper-period; cost = m .upper-cost };
-        lower = record { core = h; share = omega arith; reach = omega (arith, most-ge rs (firstCore (rowOf (lowerOn p (pl .lines))))); period = m .lower-period; cost = m .lower-cost };
+        upper = record { share = omega arith; reach = omega (arith, most-ge rs (firstCore (rowOf (upperOn p (pl .lines))))); period = m .upper-period; cost = m .upper-cost };
+        lower = record { share = omega arith; reach = omega (arith, most-ge rs (firstCore (rowOf (lowerOn p (pl .lines))))); period = m .lower-period; cost = m .lower-cost };
       }
 
   -- the movers as the code keeps them
   module _ (ms : Movers) (m : MoversOf (pl .lines) ms) (rs : List ℕ) (h : p < coresLimit) where
     -- their numbers are small enough
-    pub movers-small : most rs ≤ reachLimit → SmallPair (pl .common) rs p (getD (ms .upper) p noLine) (getD (ms .lower) p noLine)
-    movers-small b = rw (m .uppers p h, m .lowers p h) (small-pair rs b h)
+    pub movers-small : most rs ≤ reachLimit → SmallPair (pl .common) rs (getD (ms .upper) p noMover) (getD (ms .lower) p noMover)
+    movers-small b = rw (m .uppers p h, m .lowers p h) (small-pair rs b)
 
     -- their reach is that of the plan's
-    pub movers-reach : reachOn (pl .common) rs p (getD (ms .upper) p noLine) (getD (ms .lower) p noLine)
+    pub movers-reach : reachBy (pl .common) rs (getD (ms .upper) p noMover) (getD (ms .lower) p noMover)
         ≡ reachOn (pl .common) rs p (upperOn p (pl .lines)) (lowerOn p (pl .lines))
-    movers-reach = rw (m .uppers p h, m .lowers p h)
+    unfolding reachOn
+    movers-reach = rw (m .uppers p h, m .lowers p h) refl
 
     -- and so is the bound of the fixed tasks
-    pub movers-late : pairLate (pl .common) rs p (getD (ms .upper) p noLine) (getD (ms .lower) p noLine) ≡ fixedLate (pl .common) rs (pl .lines) p
+    pub movers-late : pairLate (pl .common) rs (getD (ms .upper) p noMover) (getD (ms .lower) p noMover) ≡ fixedLate (pl .common) rs (pl .lines) p
     movers-late = rw (m .uppers p h, m .lowers p h) (sym (fixed-pair rs))

@@ -4,7 +4,7 @@ use mathlib.Core.Path.{_≡_, refl, sym, ap, ap₂, _∙_}
 use mathlib.Core.List.{List, [], _∷_, _++_, append-assoc, append-nil}
 use native.Mathlib.Omega.{arith}
 use native.Mathlib.Numerals.{add-one}
-use lib.ListN.{length, getD, set, length-append}
+use lib.ListN.{length, getD, set, length-append, length-replicate}
 use lib.Seq.{set-at}
 use Rattle.units.specs.Limits.{coresLimit, periodLimit}
 use Rattle.lists.specs.Lists.{zeros, most}
@@ -34,6 +34,11 @@ module _ (l : ℕ) (lns : List Line) where
   -- those of the first p cores, 0 for the others
   abbrev pub reached : ℕ → List ℕ
   reached p = reaches l lns p ++ zeros (coresLimit - p)
+
+  -- one for each of all cores
+  pub reached-long : (p : ℕ) → p ≤ coresLimit → (rs : List ℕ) → rs ≡ reached p → length rs ≡ coresLimit
+  reached-long p h rs e =
+      rw (e, length-append (reaches l lns p) (zeros (coresLimit - p)), length-replicate {A = ℕ} (coresLimit - p) 0) (omega (arith, reaches-length p))
 
   -- none is known at first
   pub reached-none : zeros coresLimit ≡ reached 0

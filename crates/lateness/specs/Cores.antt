@@ -1,34 +1,54 @@
--- The movers of each core, as the code keeps them.
+-- The movers of each core and the numbers of each task, as the code keeps them.
 use Prim.Native.Nat.{ℕ, _+_, _*_, _-_, _<_}
 use mathlib.Core.Path.{_≡_}
 use mathlib.Core.Bool.{cond}
 use mathlib.Core.List.{List}
+use lib.Dec.{ltb}
 use lib.IntN.{ℤ, pos, subℕ}
 use lib.ListN.{getD}
 use Rattle.units.specs.Limits.{coresLimit}
 use Rattle.arith.specs.Ceiling.{ceilDiv}
 use Rattle.assignment.specs.Movers.{moves, firstCore, upper, lower}
 use Rattle.planning.specs.declared.Line.{Line}
-use Rattle.planning.specs.Plan.{noLine, rowOf}
+use Rattle.planning.specs.Plan.{rowOf}
+use Rattle.lateness.specs.declared.movers.Mover.{Mover}
 use Rattle.lateness.specs.declared.movers.Movers.{Movers}
-use Rattle.lateness.specs.Lateness.{upperOn, lowerOn, shareOn, reachOf, push}
+use Rattle.lateness.specs.Lateness.{upperOn, lowerOn, shareOn}
+
+-- a line as a mover on core p
+abbrev pub moverOn : ℕ → Line → Mover
+moverOn p ln = record { share = shareOn p ln; cost = ln .cost .0; period = ln .period .0; first = firstCore (rowOf ln) }
+
+-- what stands past the last core
+abbrev pub noMover : Mover
+noMover = record { share = 0; cost = 0; period = 0; first = 0 }
 
 -- the movers with one line more in front
 pub record WithLine (ms : Movers) (ln : Line) (new : Movers) : Type 0 where
-  pub uppers : (p : ℕ) → p < coresLimit → getD (new .upper) p noLine ≡ cond (upper p (rowOf ln)) ln (getD (ms .upper) p noLine)
-  pub lowers : (p : ℕ) → p < coresLimit → getD (new .lower) p noLine ≡ cond (lower p (rowOf ln)) ln (getD (ms .lower) p noLine)
+  pub uppers : (p : ℕ) → p < coresLimit → getD (new .upper) p noMover ≡ cond (upper p (rowOf ln)) (moverOn p ln) (getD (ms .upper) p noMover)
+  pub lowers : (p : ℕ) → p < coresLimit → getD (new .lower) p noMover ≡ cond (lower p (rowOf ln)) (moverOn p ln) (getD (ms .lower) p noMover)
 
 -- the movers of lines, on each core
 pub record MoversOf (lns : List Line) (ms : Movers) : Type 0 where
-  pub uppers : (p : ℕ) → p < coresLimit → getD (ms .upper) p noLine ≡ upperOn p lns
-  pub lowers : (p : ℕ) → p < coresLimit → getD (ms .lower) p noLine ≡ lowerOn p lns
+  pub uppers : (p : ℕ) → p < coresLimit → getD (ms .upper) p noMover ≡ moverOn p (upperOn p lns)
+  pub lowers : (p : ℕ) → p < coresLimit → getD (ms .lower) p noMover ≡ moverOn p (lowerOn p lns)
 
--- a fixed task's bound on core p, from its upper mover h and its lower mover ln
-abbrev pub pairLate : ℕ → List ℕ → ℕ → Line → Line → ℕ
-pairLate l rs p h ln =
-    ceilDiv (push rs p h + push rs p ln + l * (2 * h .cost .0 + 2 * ln .cost .0)) (l - shareOn p h - shareOn p ln)
+-- s × (D + 2T) of a mover
+abbrev pub pushBy : List ℕ → Mover → ℕ
+pushBy rs m = m .share * (getD rs (m .first) 0 + m .period)
 
--- a task's bound, from the reaches of movers and the bounds of fixed tasks, both by first core
-abbrev pub lateBy : List ℕ → List ℕ → Line → ℤ
-lateBy rs fixed ln =
-    cond (moves (rowOf ln)) (subℕ (reachOf rs ln) (ln .period .0)) (pos (getD fixed (firstCore (rowOf ln)) 0))
+-- the reach of a lower mover m, with the upper mover h
+abbrev pub reachBy : ℕ → List ℕ → Mover → Mover → ℕ
+reachBy l rs h m = ceilDiv (pushBy rs h + l * (2 * h .cost + m .cost)) (l - h .share)
+
+-- a fixed task's bound, from the upper mover h and the lower mover m of its core
+abbrev pub pairLate : ℕ → List ℕ → Mover → Mover → ℕ
+pairLate l rs h m = ceilDiv (pushBy rs h + pushBy rs m + l * (2 * h .cost + 2 * m .cost)) (l - h .share - m .share)
+
+-- one more than a mover's period, 0 of a task that does not move
+abbrev pub gapOf : Line → ℕ
+gapOf ln = cond (moves (rowOf ln)) (ln .period .0 + 1) 0
+
+-- a task's bound by its first core p and its gap g, from the reaches of movers and the bounds of fixed tasks
+abbrev pub lateAt : List ℕ → List ℕ → ℕ → ℕ → ℤ
+lateAt rs fixed p g = cond (ltb 0 g) (subℕ (getD rs p 0) (g - 1)) (pos (getD fixed p 0))

@@ -1,9 +1,10 @@
 -- Numbers small enough for the code to work with.
-use Prim.Native.Nat.{ℕ, _+_, _*_, _≤_, _<_}
+use Prim.Native.Nat.{ℕ, _+_, _*_, _≤_}
+use mathlib.Core.Path.{_≡_}
 use mathlib.Core.List.{List}
-use Rattle.units.specs.Limits.{coresLimit, periodLimit, commonLimit}
-use Rattle.planning.specs.declared.Line.{Line}
-use Rattle.lateness.specs.Lateness.{shareOn, reachOf}
+use lib.ListN.{length, getD}
+use Rattle.units.specs.Limits.{coresLimit, tasksLimit, periodLimit, commonLimit}
+use Rattle.lateness.specs.declared.movers.Mover.{Mover}
 
 -- a mover's reach, at most
 abbrev pub reachLimit : ℕ
@@ -13,17 +14,26 @@ reachLimit = 7 * periodLimit * coresLimit
 abbrev pub lateLimit : ℕ
 lateLimit = 1000000000
 
--- a mover on core p, with the reaches of movers by their first core
-pub record Small (rs : List ℕ) (p : ℕ) (ln : Line) : Type 0 where
-  pub core : p < coresLimit
-  pub share : shareOn p ln ≤ commonLimit
-  pub reach : reachOf rs ln ≤ reachLimit
-  pub period : ln .period .0 ≤ periodLimit
-  pub cost : ln .cost .0 ≤ periodLimit
+-- a mover, with the reaches of movers by their first core
+pub record Small (rs : List ℕ) (m : Mover) : Type 0 where
+  pub share : m .share ≤ commonLimit
+  pub reach : getD rs (m .first) 0 ≤ reachLimit
+  pub period : m .period ≤ periodLimit
+  pub cost : m .cost ≤ periodLimit
 
--- the upper mover h and the lower mover ln of core p, which has l units
-pub record SmallPair (l : ℕ) (rs : List ℕ) (p : ℕ) (h ln : Line) : Type 0 where
+-- the upper mover h and the lower mover m of a core, which has l units
+pub record SmallPair (l : ℕ) (rs : List ℕ) (h m : Mover) : Type 0 where
   pub common : l ≤ commonLimit
-  pub room : shareOn p h + shareOn p ln ≤ l
-  pub upper : Small rs p h
-  pub lower : Small rs p ln
+  pub room : h .share + m .share ≤ l
+  pub upper : Small rs h
+  pub lower : Small rs m
+
+-- first cores and gaps by task, reaches of movers and bounds of fixed tasks by first core
+pub record Known (firsts gaps rs fixed : List ℕ) : Type 0 where
+  pub firsts-long : length firsts ≡ tasksLimit
+  pub gaps-long : length gaps ≡ tasksLimit
+  pub reaches-long : length rs ≡ coresLimit
+  pub fixed-long : length fixed ≡ coresLimit
+  pub gap : (i : ℕ) → getD gaps i 0 ≤ periodLimit + 1
+  pub reach : (p : ℕ) → getD rs p 0 ≤ lateLimit
+  pub late : (p : ℕ) → getD fixed p 0 ≤ lateLimit

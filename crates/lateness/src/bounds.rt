@@ -1,69 +1,61 @@
 // The bounds, by rising first core.
+use crate::movers::Mover;
 use crate::movers::Movers;
-use crate::movers::movers_of;
+use crate::movers::with_line;
 use arith::ceiling::ceil_div;
-use planning::Line;
 use planning::Plan;
 use rows::first_core;
 use rows::parts_of;
 use units::limits::CORES;
 use units::limits::TASKS;
-ghost use Prim.Native.Nat.{ℕ, _≤_};
+ghost use Prim.Native.Nat.{ℕ, _+_, _≤_, _<_};
 ghost use mathlib.Core.Path.{_≡_};
-ghost use lib.ListN.{getD};
-ghost use Rattle.units.specs.Limits.{coresLimit, periodLimit};
+ghost use lib.IntN.{pos};
+ghost use lib.ListN.{length, getD};
+ghost use Rattle.units.specs.Limits.{coresLimit, tasksLimit, periodLimit};
 ghost use Rattle.lists.specs.Lists.{most};
-ghost use Rattle.assignment.specs.Movers.{firstCore};
-ghost use Rattle.planning.specs.Plan.{rowOf};
 ghost use Rattle.planning.specs.Kept.{PlanKept};
-ghost use Rattle.lateness.specs.Lateness.{push as pushOf, reachOf, reachOn, reaches as reachesOf, fixedLate, latesOf};
-ghost use Rattle.lateness.specs.Cores.{MoversOf, pairLate, lateBy};
-ghost use Rattle.lateness.specs.Small.{Small, SmallPair, reachLimit, lateLimit};
+ghost use Rattle.lateness.specs.Lateness.{reaches as reachesOf, fixedLate, latesOf};
+ghost use Rattle.lateness.specs.Cores.{MoversOf, pushBy, reachBy, pairLate, lateAt};
+ghost use Rattle.lateness.specs.Small.{Small, SmallPair, Known, reachLimit, lateLimit};
 
 // What stands at a core, 0 where there is no such core.
-fn at(numbers: [u64; CORES], p: usize) -> u64
-    ensures { λ r. ⌜ r ≡ getD numbers p 0 ⌝ }
+fn at(numbers: &[u64; CORES], p: usize) -> u64
+    requires { ⌜ length (now numbers) ≡ coresLimit ⌝ }
+    ensures { λ r. ⌜ r ≡ getD (now (numbers .entry)) p 0 ⌝ }
 {
     if p < CORES { numbers[p] } else { 0 }
 }
 
-// s × (D + 2T) of a mover on core p, from the reaches by first core.
-fn push(reaches: [u64; CORES], p: usize, line: Line) -> u64
-    requires { ⌜ Small reaches p line ⌝ }
-    ensures { λ r. ⌜ r ≡ pushOf reaches p line ⌝ }
+// s × (D + 2T) of a mover, from the reaches by first core.
+fn push(reaches: &[u64; CORES], mover: Mover) -> u64
+    requires { ⌜ (length (now reaches) ≡ coresLimit) × Small (now reaches) mover ⌝ }
+    ensures { λ r. ⌜ r ≡ pushBy (now (reaches .entry)) mover ⌝ }
 {
-    let shares = line.shares;
-    let s = shares[p];
-    let reach = at(reaches, first_core(shares));
-    s.0 as u64 * (reach + line.period.0)
+    let reach = at(reaches, mover.first);
+    mover.share * (reach + mover.period)
 }
 
-// The reach of core p's lower mover, (s × (D + 2T) + L × (2C' + C)) / (L − s) rounded up, with the upper mover's s, D, T and C'.
-fn reach_on(common: u32, reaches: [u64; CORES], p: usize, upper: Line, lower: Line) -> u64
-    requires { ⌜ SmallPair common reaches p upper lower ⌝ }
-    ensures { λ r. ⌜ r ≡ reachOn common reaches p upper lower ⌝ }
+// The reach of a core's lower mover, (s × (D + 2T) + L × (2C' + C)) / (L − s) rounded up, with the upper mover's s, D, T and C'.
+fn reach_on(common: u32, reaches: &[u64; CORES], upper: Mover, lower: Mover) -> u64
+    requires { ⌜ (length (now reaches) ≡ coresLimit) × SmallPair common (now reaches) upper lower ⌝ }
+    ensures { λ r. ⌜ r ≡ reachBy common (now (reaches .entry)) upper lower ⌝ }
 {
     let l = common as u64;
-    let shares = upper.shares;
-    let s = shares[p];
-    let own = l * (2 * upper.cost.0 + lower.cost.0);
-    ceil_div(push(reaches, p, upper) + own, l - s.0 as u64)
+    let own = l * (2 * upper.cost + lower.cost);
+    ceil_div(push(reaches, upper) + own, l - upper.share)
 }
 
-// The bound of core p's fixed tasks.
-fn fixed_on(common: u32, reaches: [u64; CORES], p: usize, upper: Line, lower: Line) -> u64
-    requires { ⌜ SmallPair common reaches p upper lower ⌝ }
-    ensures { λ r. ⌜ r ≡ pairLate common reaches p upper lower ⌝ }
+// The bound of a core's fixed tasks.
+fn fixed_on(common: u32, reaches: &[u64; CORES], upper: Mover, lower: Mover) -> u64
+    requires { ⌜ (length (now reaches) ≡ coresLimit) × SmallPair common (now reaches) upper lower ⌝ }
+    ensures { λ r. ⌜ r ≡ pairLate common (now (reaches .entry)) upper lower ⌝ }
 {
     let l = common as u64;
-    let above = upper.shares;
-    let below = lower.shares;
-    let s = above[p];
-    let t = below[p];
-    let own = l * (2 * upper.cost.0 + 2 * lower.cost.0);
+    let own = l * (2 * upper.cost + 2 * lower.cost);
     ceil_div(
-        push(reaches, p, upper) + push(reaches, p, lower) + own,
-        l - s.0 as u64 - t.0 as u64,
+        push(reaches, upper) + push(reaches, lower) + own,
+        l - upper.share - lower.share,
     )
 }
 
@@ -77,56 +69,89 @@ fn reaches_of(plan: Plan, movers: Movers) -> [u64; CORES]
     while p < CORES {
         let upper = movers.upper[p];
         let lower = movers.lower[p];
-        reaches[p] = reach_on(plan.common, reaches, p, upper, lower);
+        let reach = reach_on(plan.common, &reaches, upper, lower);
+        reaches[p] = reach;
         p += 1;
     }
     reaches
 }
 
 // The bound of each core's fixed tasks, from the reaches of the plan's movers.
-fn fixed_of(plan: Plan, movers: Movers, reaches: [u64; CORES]) -> [u64; CORES]
-    requires { ⌜ (PlanKept plan) × (MoversOf (plan .lines) movers) × (most reaches ≤ reachLimit) ⌝ }
-    ensures { λ r. ⌜ ((p : ℕ) → getD r p 0 ≡ fixedLate (plan .common) reaches (plan .lines) p) ⌝ }
+fn fixed_of(plan: Plan, movers: Movers, reaches: &[u64; CORES]) -> [u64; CORES]
+    requires { ⌜ (PlanKept plan) × (MoversOf (plan .lines) movers) × (most (now reaches) ≤ reachLimit) × (length (now reaches) ≡ coresLimit) ⌝ }
+    ensures { λ r. ⌜ ((p : ℕ) → getD r p 0 ≡ fixedLate (plan .common) (now (reaches .entry)) (plan .lines) p) ⌝ }
 {
     let mut bounds = [0u64; CORES];
     let mut p: usize = 0;
     while p < CORES {
         let upper = movers.upper[p];
         let lower = movers.lower[p];
-        bounds[p] = fixed_on(plan.common, reaches, p, upper, lower);
+        bounds[p] = fixed_on(plan.common, reaches, upper, lower);
         p += 1;
     }
     bounds
 }
 
-// A task's bound.
-fn late_of(line: Line, reaches: [u64; CORES], fixed: [u64; CORES]) -> i64
-    requires { ⌜ (line .period .0 ≤ periodLimit) × (reachOf reaches line ≤ lateLimit) × (getD fixed (firstCore (rowOf line)) 0 ≤ lateLimit) ⌝ }
-    ensures { λ r. ⌜ r ≡ lateBy reaches fixed line ⌝ }
+// A task's bound by its first core and its gap.
+fn late_at(first: usize, gap: u64, reaches: &[u64; CORES], fixed: &[u64; CORES]) -> i64
+    requires { ⌜ (length (now reaches) ≡ coresLimit) × (length (now fixed) ≡ coresLimit) ⌝ }
+    requires { ⌜ (gap ≤ periodLimit + 1) × (getD (now reaches) first 0 ≤ lateLimit) × (getD (now fixed) first 0 ≤ lateLimit) ⌝ }
+    ensures { λ r. ⌜ r ≡ lateAt (now (reaches .entry)) (now (fixed .entry)) first gap ⌝ }
 {
-    let shares = line.shares;
-    let first = first_core(shares);
-    if parts_of(shares) < 2 {
-        return at(fixed, first) as i64;
+    if 0 < gap {
+        return at(reaches, first) as i64 - (gap - 1) as i64;
     }
-    at(reaches, first) as i64 - line.period.0 as i64
+    at(fixed, first) as i64
 }
 
-// The bound of each task, in ticks.
+// The bounds of tasks by their first cores and gaps.
+fn lates_of(
+    firsts: &[usize; TASKS],
+    gaps: &[u64; TASKS],
+    reaches: &[u64; CORES],
+    fixed: &[u64; CORES],
+) -> [i64; TASKS]
+    requires { ⌜ Known (now firsts) (now gaps) (now reaches) (now fixed) ⌝ }
+    ensures { λ r. ⌜ ((i : ℕ) → i < tasksLimit → getD r i (pos 0) ≡ lateAt (now (reaches .entry)) (now (fixed .entry)) (getD (now (firsts .entry)) i 0) (getD (now (gaps .entry)) i 0)) ⌝ }
+{
+    let mut lates = [0i64; TASKS];
+    let mut i: usize = 0;
+    while i < TASKS {
+        let first = firsts[i];
+        let gap = gaps[i];
+        let late = late_at(first, gap, reaches, fixed);
+        lates[i] = late;
+        i += 1;
+    }
+    lates
+}
+
+// The bound of each task, in ticks. The lines are read once; what follows works on numbers.
 pub fn bounds_of(plan: Plan) -> [i64; TASKS]
     requires { ⌜ PlanKept plan ⌝ }
     ensures { λ r. ⌜ r ≡ latesOf plan ⌝ }
 {
-    let lines = plan.lines;
-    let movers = movers_of(lines);
-    let reaches = reaches_of(plan, movers);
-    let fixed = fixed_of(plan, movers, reaches);
-    let mut lates = [0i64; TASKS];
-    let mut i: usize = 0;
-    while i < TASKS {
-        let line = lines[i];
-        lates[i] = late_of(line, reaches, fixed);
-        i += 1;
+    let mut movers = Movers {
+        upper: [Mover::NONE; CORES],
+        lower: [Mover::NONE; CORES],
+    };
+    let mut firsts = [0usize; TASKS];
+    let mut gaps = [0u64; TASKS];
+    let mut i: usize = TASKS;
+    while 0 < i {
+        i -= 1;
+        let line = plan.lines[i];
+        let shares = line.shares;
+        let first = first_core(shares);
+        firsts[i] = first;
+        if 1 < parts_of(shares) {
+            gaps[i] = line.period.0 + 1;
+            movers = with_line(movers, line, first);
+        } else {
+            gaps[i] = 0;
+        }
     }
-    lates
+    let reaches = reaches_of(plan, movers);
+    let fixed = fixed_of(plan, movers, &reaches);
+    lates_of(&firsts, &gaps, &reaches, &fixed)
 }

@@ -1,37 +1,61 @@
 // The movers of each core.
 use planning::Line;
-use rows::first_core;
-use rows::parts_of;
 use units::limits::CORES;
-use units::limits::TASKS;
-ghost use Rattle.lateness.specs.Cores.{WithLine, MoversOf};
+ghost use mathlib.Core.Path.{_≡_};
+ghost use Prim.Native.Nat.{_<_};
+ghost use Rattle.lists.specs.Lists.{parts};
+ghost use Rattle.assignment.specs.Movers.{firstCore};
+ghost use Rattle.planning.specs.Plan.{rowOf};
+ghost use Rattle.lateness.specs.Cores.{WithLine};
 
-// The upper and the lower mover of each core, the empty line where there is none.
-pub struct Movers {
-    pub upper: [Line; CORES],
-    pub lower: [Line; CORES],
+// A mover on a core: its share there, its cost, its period and its first core.
+pub struct Mover {
+    pub share: u64,
+    pub cost: u64,
+    pub period: u64,
+    pub first: usize,
 }
 
-// The movers with one line more in front.
-fn with_line(movers: Movers, line: Line) -> Movers
+impl Mover {
+    pub const NONE: Mover = Mover {
+        share: 0,
+        cost: 0,
+        period: 0,
+        first: CORES,
+    };
+}
+
+// The upper and the lower mover of each core. Their numbers alone are kept: whole lines would be copied for each mover.
+pub struct Movers {
+    pub upper: [Mover; CORES],
+    pub lower: [Mover; CORES],
+}
+
+// The movers with one line more in front, which moves.
+pub fn with_line(movers: Movers, line: Line, first: usize) -> Movers
+    requires { ⌜ (1 < parts (rowOf line)) × (first ≡ firstCore (rowOf line)) ⌝ }
     ensures { λ r. ⌜ WithLine movers line r ⌝ }
 {
     let shares = line.shares;
-    let moves = 1 < parts_of(shares);
-    let first = first_core(shares);
     let mut upper = movers.upper;
     let mut lower = movers.lower;
     let mut p: usize = 0;
     while p < CORES {
         let s = shares[p];
-        let on = moves & (0 < s.0);
-        let is_lower = on & (first == p);
+        let share = s.0 as u64;
+        let mover = Mover {
+            share: share,
+            cost: line.cost.0,
+            period: line.period.0,
+            first: first,
+        };
+        let is_lower = (0 < s.0) & (first == p);
         if is_lower {
-            lower[p] = line;
+            lower[p] = mover;
         }
-        let is_upper = on & !(first == p);
+        let is_upper = (0 < s.0) & !(first == p);
         if is_upper {
-            upper[p] = line;
+            upper[p] = mover;
         }
         p += 1;
     }
@@ -39,24 +63,4 @@ fn with_line(movers: Movers, line: Line) -> Movers
         upper: upper,
         lower: lower,
     }
-}
-
-// The movers of each core.
-pub fn movers_of(lines: [Line; TASKS]) -> Movers
-    ensures { λ r. ⌜ MoversOf lines r ⌝ }
-{
-    let mut movers = Movers {
-        upper: [Line::EMPTY; CORES],
-        lower: [Line::EMPTY; CORES],
-    };
-    let mut i: usize = TASKS;
-    while 0 < i {
-        i -= 1;
-        let line = lines[i];
-        let shares = line.shares;
-        if 1 < parts_of(shares) {
-            movers = with_line(movers, line);
-        }
-    }
-    movers
 }

@@ -1,82 +1,167 @@
--- `lateness::bounds::bounds_of` meets its contract: the bounds of the first i tasks are known.
-use Prim.Native.Nat.{_-_}
+-- `lateness::bounds::bounds_of` meets its contract: the movers, the first cores and the gaps of the lines from i on are known.
+use Prim.Native.Nat.{ℕ, _+_, _-_, _≤_, _<_}
 use mathlib.Core.Path.{_≡_, refl, sym, _∙_}
 use native.Mathlib.Omega.{arith}
-use borrow.Author.Needs.{needs}
-use lib.ListN.{length, getD, length-map}
+use lib.ListN.{length, getD, drop, length-map}
 use Rattle.units.specs.Limits.{tasksLimit}
-use Rattle.planning.specs.Plan.{noLine}
-use Rattle.lateness.specs.Cores.{lateBy}
-use Rattle.lateness.proofs.Tasks.{reaches-small, task-small, tasks-late}
-use mir.Syntax.{w64}
-use mir.Val.{SFits}
-use mir.ValLaws.{toZ-ofZ}
-use Rattle.lateness.proofs.Filled.{Filled, filled-none, filled-set, filled-map}
+use Rattle.lists.specs.Lists.{parts}
+use Rattle.lists.proofs.Lists.{most-ge}
+use Rattle.planning.specs.Plan.{noLine, rowOf}
+use Rattle.lateness.specs.Cores.{MoversOf}
+use Rattle.lateness.proofs.Noted.{Noted, noted-none, noted-next}
+use Rattle.lateness.proofs.Gathered.{gathered-none, gathered-next, unmoved}
+use Rattle.lateness.proofs.Tasks.{firstAt, gapAt, gap-moves, gap-fixed, gaps-small, reaches-small, fixed-small, tasks-late}
+use borrow.Author.Needs.{needs}
 use Rattle.lateness.proofs.bounds.bounds_of.Statement.{statement}
 use Rattle.lateness.proofs.bounds.bounds_of.Tie as tie
 
 abbrev Inv-loop : tie.InvT-loop
-Inv-loop lines reaches fixed lates₀ i₀ lates i =
-    Filled (lateBy reaches fixed noLine) tasksLimit (λ j. lateBy reaches fixed (getD lines j noLine)) lates₀ i lates
+Inv-loop plan movers₀ firsts₀ gaps₀ i₀ movers firsts gaps i =
+    (i ≤ tasksLimit) × MoversOf (drop i (plan .lines)) movers
+    × Noted tasksLimit (firstAt plan) i firsts × Noted tasksLimit (gapAt plan) i gaps
 
 abbrev μ-loop : tie.MeasureT-loop
-μ-loop lines reaches fixed lates₀ i₀ lates i = tasksLimit - i
+μ-loop plan movers₀ firsts₀ gaps₀ i₀ movers firsts gaps i = i
 
-movers-of-requires : tie.Need-movers-of-requires Inv-loop μ-loop
-movers-of-requires c κs = search needs
+-- the lines of all tasks
+lines-long : (s : tie.Start Inv-loop μ-loop) → length (s .args .t1 .lines) ≡ tasksLimit
+lines-long s = sym (length-map (s .args .t1 .lines) _) ∙ s .good .0 .1 .1 .1 .1 .1 .0 .1 .0 .1
 
-reaches-of-requires : tie.Need-reaches-of-requires Inv-loop μ-loop
-reaches-of-requires c κs = search needs
+-- after the loop all movers are known
+all : (c : tie.After-loop Inv-loop μ-loop) → MoversOf (c .before .before .args .t1 .lines) (c .before .loop .movers)
+all c =
+    let e : c .before .loop .i ≡ 0 = omega arith in
+    rw e at (c .before .loop .inv .1)
 
-fixed-of-requires : tie.Need-fixed-of-requires Inv-loop μ-loop
-fixed-of-requires c κs =
-    let s = c .before .before .before in
-    (s .pre, c .before .movers-of .ensures, reaches-small (s .args .plan) (c .reaches-of .result) (c .reaches-of .ensures) (s .pre))
+-- and what is noted of all tasks
+noted : (c : tie.After-loop Inv-loop μ-loop) →
+    let at = c .before .loop in
+    let pl = c .before .before .args .t1 in
+    Noted tasksLimit (firstAt pl) 0 (at .firsts) × Noted tasksLimit (gapAt pl) 0 (at .gaps)
+noted c =
+    let e : c .before .loop .i ≡ 0 = omega arith in
+    (rw e at (c .before .loop .inv .2), rw e at (c .before .loop .inv .3))
 
 loop-holds : tie.Need-loop-holds Inv-loop μ-loop
-loop-holds c = filled-none _ _ _ _ refl
+loop-holds c =
+    let l = lines-long c in
+    (omega arith, gathered-none (c .args .t1 .lines) tasksLimit (omega arith), noted-none _ _ _ refl, noted-none _ _ _ refl)
+
+sub-i : tie.Need-sub-i Inv-loop μ-loop
+sub-i c = omega arith
 
 mul-line : tie.Need-mul-line Inv-loop μ-loop
 mul-line c = omega arith
 
-array-copy-out-line : tie.Need-array-copy-out-line Inv-loop μ-loop
-array-copy-out-line c = omega arith
+element-copy-out-line : tie.Need-element-copy-out-line Inv-loop μ-loop
+element-copy-out-line c = omega arith
 
-late-of-requires : tie.Need-late-of-requires Inv-loop μ-loop
-late-of-requires c κs =
-    let s = c .before .before .before .before .before .before .before in
-    let rs = c .before .before .before .before .reaches-of in
-    let fx = c .before .before .before .fixed-of in
-    task-small (s .args .plan) (rs .result) (rs .ensures) (fx .result) (fx .ensures) (s .pre) (c .before .before .loop .i)
+first-core-requires : tie.Need-first-core-requires Inv-loop μ-loop
+first-core-requires c κs = search needs
 
-mul-lates : tie.Need-mul-lates Inv-loop μ-loop
-mul-lates c = omega arith
+mul-firsts : tie.Need-mul-firsts Inv-loop μ-loop
+mul-firsts c = omega arith
 
-array-set-from-lates : tie.Need-array-set-from-lates Inv-loop μ-loop
-array-set-from-lates c = omega arith
+array-write-firsts : tie.Need-array-write-firsts Inv-loop μ-loop
+array-write-firsts c = omega arith
 
-add-i : tie.Need-add-i Inv-loop μ-loop
-add-i c = omega arith
+parts-of-requires : tie.Need-parts-of-requires Inv-loop μ-loop
+parts-of-requires c κs = search needs
+
+add-gaps : tie.Need-add-gaps Inv-loop μ-loop
+add-gaps c =
+    let at = c .before .before .before .before .before .before .before in
+    record { fits = omega (arith, at .before .pre .periods (at .loop .i - 1)) }
+
+mul-gaps : tie.Need-mul-gaps Inv-loop μ-loop
+mul-gaps c = omega arith
+
+array-write-gaps : tie.Need-array-write-gaps Inv-loop μ-loop
+array-write-gaps c = omega arith
+
+with-line-requires : tie.Need-with-line-requires Inv-loop μ-loop
+with-line-requires c κs = search needs
 
 loop-less : tie.Need-loop-less Inv-loop μ-loop
 loop-less c = omega arith
 
 loop-again : tie.Need-loop-again Inv-loop μ-loop
 loop-again c =
-    let at = c .before .before .before .loop in
-    let f : SFits w64 (c .late-of .result) = search needs in
-    filled-set _ _ _ _ (at .i) (at .lates) (at .inv) (omega arith) _ (toZ-ofZ w64 (c .late-of .result) f ∙ c .late-of .ensures)
+    let q = c .before .before .before in
+    let at = q .before .before .before .before .before in
+    let pl = at .before .args .t1 in
+    let j : ℕ = at .loop .i - 1 in
+    let e : j + 1 ≡ at .loop .i = omega arith in
+    let h : j < tasksLimit = omega arith in
+    let f = q .before .first-core in (
+      omega arith,
+      gathered-next (pl .lines) j (at .loop .movers) (c .with-line .result) (omega (arith, lines-long (at .before))) (rw e (at .loop .inv .1)) (c .with-line .ensures),
+      noted-next _ (firstAt pl) (at .loop .firsts) j (f .result) (rw e (at .loop .inv .2)) h (f .ensures),
+      noted-next _ (gapAt pl) (at .loop .gaps) j _ (rw e (at .loop .inv .3)) h
+          (gap-moves (getD (pl .lines) j noLine) (omega (arith, q .parts-of .ensures, c .before .before .if1 .taken))),
+    )
+
+mul-gaps-2 : tie.Need-mul-gaps-2 Inv-loop μ-loop
+mul-gaps-2 c = omega arith
+
+array-write-gaps-2 : tie.Need-array-write-gaps-2 Inv-loop μ-loop
+array-write-gaps-2 c = omega arith
+
+loop-less-2 : tie.Need-loop-less-2 Inv-loop μ-loop
+loop-less-2 c = omega arith
+
+loop-again-2 : tie.Need-loop-again-2 Inv-loop μ-loop
+loop-again-2 c =
+    let q = c .before in
+    let at = q .before .before .before .before .before in
+    let pl = at .before .args .t1 in
+    let j : ℕ = at .loop .i - 1 in
+    let e : j + 1 ≡ at .loop .i = omega arith in
+    let h : j < tasksLimit = omega arith in
+    let f = q .before .first-core in
+    let k : parts (rowOf (getD (pl .lines) j noLine)) ≤ 1 = omega (arith, q .parts-of .ensures, c .if1 .left) in (
+      omega arith,
+      gathered-next (pl .lines) j (at .loop .movers) (at .loop .movers) (omega (arith, lines-long (at .before))) (rw e (at .loop .inv .1)) (unmoved (at .loop .movers) _ k),
+      noted-next _ (firstAt pl) (at .loop .firsts) j (f .result) (rw e (at .loop .inv .2)) h (f .ensures),
+      noted-next _ (gapAt pl) (at .loop .gaps) j 0 (rw e (at .loop .inv .3)) h (gap-fixed (getD (pl .lines) j noLine) k),
+    )
+
+reaches-of-requires : tie.Need-reaches-of-requires Inv-loop μ-loop
+reaches-of-requires c κs = (c .before .before .pre, all c)
+
+fixed-of-requires : tie.Need-fixed-of-requires Inv-loop μ-loop
+fixed-of-requires c κs =
+    let q = c .before .before in
+    let s = q .before .before in
+    let rs = c .before .reaches-of in
+    (s .pre, all q, reaches-small (s .args .t1) (rs .result) (rs .ensures) (s .pre), search needs)
+
+lates-of-requires : tie.Need-lates-of-requires Inv-loop μ-loop
+lates-of-requires c κs =
+    let fx = c .before .before .before .before in
+    let rs = fx .before .before in
+    let q = rs .before in
+    let s = q .before .before in
+    let b = reaches-small (s .args .t1) (rs .reaches-of .result) (rs .reaches-of .ensures) (s .pre) in
+    record {
+      firsts-long = noted q .0 .long;
+      gaps-long = noted q .1 .long;
+      reaches-long = search needs;
+      fixed-long = search needs;
+      gap = gaps-small (s .args .t1) (s .pre) (q .before .loop .gaps) (noted q .1);
+      reach = λ p. omega (arith, b, most-ge (rs .reaches-of .result) p);
+      late = fixed-small (s .args .t1) (rs .reaches-of .result) (rs .reaches-of .ensures) (fx .fixed-of .result) (fx .fixed-of .ensures) (s .pre);
+    }
 
 returns : tie.Need-returns Inv-loop μ-loop
 returns c =
-    let s = c .before .before .before .before .before .before in
-    let pl = s .args .plan in
-    let rs = c .before .before .before .reaches-of in
-    let fx = c .before .before .fixed-of in
-    let at = c .before .loop in
-    let l : length (pl .lines) ≡ tasksLimit = sym (length-map (pl .lines) _) ∙ s .good .0 .1 .1 .1 .1 .1 .0 .1 .0 .1 in
-    filled-map (lateBy (rs .result) (fx .result)) noLine (pl .lines) tasksLimit _ (at .i) (at .lates) (at .inv) l (omega arith)
-    ∙ tasks-late pl (rs .result) (rs .ensures) (fx .result) (fx .ensures)
+    let fx = c .before .before .before .before .before in
+    let rs = fx .before .before in
+    let q = rs .before in
+    let s = q .before .before in
+    let m : length (c .lates-of .result) ≡ tasksLimit = search needs in
+    tasks-late (s .args .t1) (rs .reaches-of .result) (rs .reaches-of .ensures) (fx .fixed-of .result) (fx .fixed-of .ensures)
+    (q .before .loop .firsts) (q .before .loop .gaps) (c .lates-of .result) (lines-long s) m (noted q .0) (noted q .1) (c .lates-of .ensures)
 
 pub bounds-of-spec : {M : Type 1} → statement M
 bounds-of-spec =
@@ -84,16 +169,25 @@ bounds-of-spec =
     (tie.spec
     Inv-loop
     μ-loop
-    movers-of-requires
-    reaches-of-requires
-    fixed-of-requires
     loop-holds
+    sub-i
     mul-line
-    array-copy-out-line
-    late-of-requires
-    mul-lates
-    array-set-from-lates
-    add-i
+    element-copy-out-line
+    first-core-requires
+    mul-firsts
+    array-write-firsts
+    parts-of-requires
+    add-gaps
+    mul-gaps
+    array-write-gaps
+    with-line-requires
     loop-less
     loop-again
+    mul-gaps-2
+    array-write-gaps-2
+    loop-less-2
+    loop-again-2
+    reaches-of-requires
+    fixed-of-requires
+    lates-of-requires
     returns)

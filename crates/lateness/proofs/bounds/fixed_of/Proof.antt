@@ -1,7 +1,7 @@
 -- `lateness::bounds::fixed_of` meets its contract: the bounds of the first p cores are known, and past the last core there is no mover.
+use native.Mathlib.Omega.{arith}
 use Prim.Native.Nat.{_-_, _≤_, _<_}
 use mathlib.Core.Path.{refl, sym, _∙_}
-use native.Mathlib.Omega.{arith}
 use lib.Dec.{ltb}
 use lib.ListN.{List·getD-eq-default}
 use borrow.Author.Tests.{ltb-true, ltb-false}
@@ -37,7 +37,7 @@ element-copy-out-lower c = omega arith
 fixed-on-requires : tie.Need-fixed-on-requires Inv-loop μ-loop
 fixed-on-requires c κs =
     let s = c .before .before .before .before in
-    movers-small (s .args .plan) (s .pre .0) (c .before .before .before .loop .p) _ (s .pre .1) (s .args .reaches) (omega arith) (s .pre .2)
+    (s .pre .3, movers-small (s .args .plan) (s .pre .0) (c .before .before .before .loop .p) _ (s .pre .1) (s .args .reaches .now) (omega arith) (s .pre .2))
 
 mul-bounds : tie.Need-mul-bounds Inv-loop μ-loop
 mul-bounds c = omega arith
@@ -57,7 +57,7 @@ loop-again c =
     let at = c .before .before .before .before .loop in
     let h : at .p < coresLimit = omega arith in
     filled-set _ _ _ _ (at .p) (at .bounds) (at .inv) h (c .fixed-on .result)
-    (c .fixed-on .ensures ∙ movers-late (s .args .plan) (s .pre .0) (at .p) _ (s .pre .1) (s .args .reaches) h)
+    (c .fixed-on .ensures ∙ movers-late (s .args .plan) (s .pre .0) (at .p) _ (s .pre .1) (s .args .reaches .now) h)
 
 returns : tie.Need-returns Inv-loop μ-loop
 returns c =
@@ -68,7 +68,7 @@ returns c =
     (λ e. at .inv .done q (omega (arith, ltb-true q coresLimit e)))
     (λ e.
     let l : coresLimit ≤ q = ltb-false q coresLimit e in
-    List·getD-eq-default (at .bounds) 0 {n = q} (omega (arith, at .inv .long)) ∙ sym (fixed-beyond (s .args .plan) (s .pre .0) q (s .args .reaches) l))
+    List·getD-eq-default (at .bounds) 0 {n = q} (omega (arith, at .inv .long)) ∙ sym (fixed-beyond (s .args .plan) (s .pre .0) q (s .args .reaches .now) l))
 
 pub fixed-of-spec : {M : Type 1} → statement M
 fixed-of-spec =

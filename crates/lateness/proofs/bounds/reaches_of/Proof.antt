@@ -1,10 +1,10 @@
 -- `lateness::bounds::reaches_of` meets its contract: the reaches of the first p cores are known.
+use native.Mathlib.Omega.{arith}
 use Prim.Native.Nat.{_-_, _≤_, _<_}
 use mathlib.Core.Path.{_≡_, _∙_}
-use native.Mathlib.Omega.{arith}
 use Rattle.units.specs.Limits.{coresLimit}
 use Rattle.lateness.proofs.Modest.{movers-small, movers-reach}
-use Rattle.lateness.proofs.Reached.{reached, reached-none, reached-next, reached-all, reached-le}
+use Rattle.lateness.proofs.Reached.{reached, reached-long, reached-none, reached-next, reached-all, reached-le}
 use Rattle.lateness.proofs.bounds.reaches_of.Statement.{statement}
 use Rattle.lateness.proofs.bounds.reaches_of.Tie as tie
 
@@ -31,10 +31,10 @@ element-copy-out-lower c = omega arith
 
 reach-on-requires : tie.Need-reach-on-requires Inv-loop μ-loop
 reach-on-requires c κs =
-    let s = c .before .before .before .before in
-    let at = c .before .before .before .loop in
+    let s = c .before .before .before .before .before in
+    let at = c .before .before .before .before .loop in
     let b = reached-le (s .args .plan) (s .pre .0) (at .p) in
-    movers-small (s .args .plan) (s .pre .0) (at .p) _ (s .pre .1) (at .reaches) (omega arith) (rw (at .inv .1) (omega arith))
+    (reached-long (s .args .plan .common) (s .args .plan .lines) (at .p) (at .inv .0) (at .reaches) (at .inv .1), movers-small (s .args .plan) (s .pre .0) (at .p) _ (s .pre .1) (at .reaches) (omega arith) (rw (at .inv .1) (omega arith)))
 
 mul-reaches : tie.Need-mul-reaches Inv-loop μ-loop
 mul-reaches c = omega arith
@@ -50,9 +50,9 @@ loop-less c = omega arith
 
 loop-again : tie.Need-loop-again Inv-loop μ-loop
 loop-again c =
-    let s = c .before .before .before .before .before in
+    let s = c .before .before .before .before .before .before in
     let pl = s .args .plan in
-    let at = c .before .before .before .before .loop in
+    let at = c .before .before .before .before .before .loop in
     let h : at .p < coresLimit = omega arith in (
       omega arith,
       reached-next (pl .common) (pl .lines) (at .p) h (at .reaches) (c .reach-on .result) (at .inv .1)

@@ -4,33 +4,28 @@ use mathlib.Core.Path.{sym, _∙_}
 use mathlib.Core.List.{List}
 use mathlib.Core.Logic.{⊎-elim}
 use native.Mathlib.Omega.{arith}
-use borrow.Author.Needs.{needs}
 use lib.ListN.{length-map}
 use Rattle.units.specs.Limits.{coresLimit}
 use Rattle.units.specs.Units.{nums}
 use Rattle.assignment.specs.Movers.{upper as isUpper, lower as isLower}
+use Rattle.lateness.specs.Cores.{moverOn}
 use Rattle.lateness.proofs.Filled.{filled-none}
-use Rattle.lateness.proofs.Front.{Front, front-set, front-skip, is-upper, is-lower}
+use Rattle.lateness.proofs.Front.{Front, front-set, front-skip, is-upper, is-lower, as-mover}
+use borrow.Author.Needs.{needs}
 use Rattle.lateness.proofs.movers.with_line.Statement.{statement}
 use Rattle.lateness.proofs.movers.with_line.Tie as tie
 
 abbrev Inv-loop : tie.InvT-loop
-Inv-loop line shares moves first upper₀ lower₀ p₀ upper lower p =
-    Front (λ q. isUpper q (nums shares)) line upper₀ p upper × Front (λ q. isLower q (nums shares)) line lower₀ p lower
+Inv-loop line first shares upper₀ lower₀ p₀ upper lower p =
+    Front (λ q. isUpper q (nums shares)) (λ q. moverOn q line) upper₀ p upper × Front (λ q. isLower q (nums shares)) (λ q. moverOn q line) lower₀ p lower
 
 abbrev μ-loop : tie.MeasureT-loop
-μ-loop line shares moves first upper₀ lower₀ p₀ upper lower p = coresLimit - p
-
-parts-of-requires : tie.Need-parts-of-requires Inv-loop μ-loop
-parts-of-requires c κs = search needs
-
-first-core-requires : tie.Need-first-core-requires Inv-loop μ-loop
-first-core-requires c κs = search needs
+μ-loop line first shares upper₀ lower₀ p₀ upper lower p = coresLimit - p
 
 loop-holds : tie.Need-loop-holds Inv-loop μ-loop
 loop-holds c =
-    let m = c .before .before .before .before .before .args .movers in
-    let g = c .before .before .before .before .before .good .0 .1 .1 in (
+    let m = c .before .before .before .args .movers in
+    let g = c .before .before .before .good .0 .1 .1 in (
       filled-none _ _ _ _ (sym (length-map (m .upper) _) ∙ g .0 .1 .0 .1),
       filled-none _ _ _ _ (sym (length-map (m .lower) _) ∙ g .1 .0 .1 .0 .1),
     )
@@ -40,6 +35,9 @@ mul-s c = omega arith
 
 array-copy-out-s : tie.Need-array-copy-out-s Inv-loop μ-loop
 array-copy-out-s c = omega arith
+
+cast-share : tie.Need-cast-share Inv-loop μ-loop
+cast-share c = search needs
 
 mul-lower : tie.Need-mul-lower Inv-loop μ-loop
 mul-lower c = omega arith
@@ -61,23 +59,23 @@ loop-less c = omega arith
 
 loop-again : tie.Need-loop-again Inv-loop μ-loop
 loop-again c =
-    let a = c .before .before .before .before .before .before .before .before .before .before .before .args in
-    let n = c .before .before .before .before .before .before .before .before .before .parts-of in
-    let f = c .before .before .before .before .before .before .before .before .first-core in
-    let at = c .before .before .before .before .before .loop in
+    let s = c .before .before .before .before .before .before .before .before .before .before .before in
+    let a = s .args in
+    let at = c .before .before .before .before .before .before .before .loop in
     let p : ℕ = at .p in
     let h : p < coresLimit = omega arith in
     let row : List ℕ = nums (a .line .shares) in
-    let up = is-upper (a .line .shares) p (n .result) (f .result) (n .ensures) (f .ensures) in
-    let low = is-lower (a .line .shares) p (n .result) (f .result) (n .ensures) (f .ensures) in (
+    let on = as-mover (a .line) p (a .first) (s .pre .1) in
+    let up = is-upper (a .line .shares) p (a .first) (s .pre .0) (s .pre .1) in
+    let low = is-lower (a .line .shares) p (a .first) (s .pre .0) (s .pre .1) in (
       ⊎-elim
-          (λ t. rw (t .1) (front-set (λ q. isUpper q row) (a .line) (a .movers .upper) p (at .upper) (at .inv .0) h (sym up ∙ t .0 .taken)))
-          (λ t. rw (t .1) (front-skip (λ q. isUpper q row) (a .line) (a .movers .upper) p (at .upper) (at .inv .0) h (sym up ∙ t .0 .left)))
+          (λ t. rw (t .1) (front-set (λ q. isUpper q row) (λ q. moverOn q (a .line)) (a .movers .upper) p (at .upper) (at .inv .0) h _ on (sym up ∙ t .0 .taken)))
+          (λ t. rw (t .1) (front-skip (λ q. isUpper q row) (λ q. moverOn q (a .line)) (a .movers .upper) p (at .upper) (at .inv .0) h (sym up ∙ t .0 .left)))
           (c .if2 .came),
       ⊎-elim
-          (λ t. rw (t .1) (front-set (λ q. isLower q row) (a .line) (a .movers .lower) p (at .lower) (at .inv .1) h (sym low ∙ t .0 .taken)))
-          (λ t. rw (t .1) (front-skip (λ q. isLower q row) (a .line) (a .movers .lower) p (at .lower) (at .inv .1) h (sym low ∙ t .0 .left)))
-          (c .before .if1 .came),
+          (λ t. rw (t .1) (front-set (λ q. isLower q row) (λ q. moverOn q (a .line)) (a .movers .lower) p (at .lower) (at .inv .1) h _ on (sym low ∙ t .0 .taken)))
+          (λ t. rw (t .1) (front-skip (λ q. isLower q row) (λ q. moverOn q (a .line)) (a .movers .lower) p (at .lower) (at .inv .1) h (sym low ∙ t .0 .left)))
+          (c .before .before .if1 .came),
     )
 
 returns : tie.Need-returns Inv-loop μ-loop
@@ -94,11 +92,10 @@ with-line-spec =
     (tie.spec
     Inv-loop
     μ-loop
-    parts-of-requires
-    first-core-requires
     loop-holds
     mul-s
     array-copy-out-s
+    cast-share
     mul-lower
     array-set-from-lower
     mul-upper
