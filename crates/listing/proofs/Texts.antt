@@ -7,10 +7,15 @@ use native.Mathlib.Numerals.{add-one}
 use native.Mathlib.Omega.{arith}
 use borrow.Author.Tests.{ne-eqb, lt-ltb, le-ltb}
 use lib.IntN.{ℤ, pos}
-use lib.ListN.{getD, take}
+use lib.Dec.{ltb, eqb}
+use lib.ListN.{length, getD, take, drop, length-drop, length-map}
+use lib.Seq.{drop-cons}
 use Rattle.units.specs.declared.share.Share.{Share}
 use Rattle.units.specs.Units.{share, nums}
-use Rattle.lists.specs.Lists.{parts}
+use Rattle.units.proofs.Units.{nums-at}
+use Rattle.lists.specs.Lists.{parts, bit}
+use Rattle.lists.proofs.Tests.{by-cases}
+use Rattle.lists.proofs.Lists.{parts-cons, parts-len}
 use Rattle.decimal.specs.Ascii.{ascii}
 use Rattle.planning.specs.declared.Line.{Line}
 use Rattle.planning.specs.Plan.{noLine}
@@ -43,6 +48,42 @@ cores-more ss k =
     ap (λ (m : ℕ). sharesText 1 (nums (take k ss)) ++ shareText m (getD ss k (share 0) .0)) (omega arith)
     ∙ shares-more 1 ss k
     ∙ ap (λ (m : ℕ). sharesText 1 (nums (take m ss))) (sym (add-one k))
+
+-- with no part left there is no text left
+none-text : (q : ℕ) (row : List ℕ) → parts row ≡ 0 → [] ≡ sharesText q row
+none-text q [] e = refl
+none-text q (x ∷ row) e =
+    by-cases (eqb x 0) (λ t. rw t (none-text (suc q) row (rw t at e))) (λ t. absurd (omega (arith, rw t at e)))
+
+done-from : (q : ℕ) (ss : List Share) (k : ℕ) → parts (drop k (nums ss)) ≡ 0 → sharesText q (nums (take k ss)) ≡ sharesText q (nums ss)
+done-from q [] zero e = refl
+done-from q [] (suc k) e = refl
+done-from q (s ∷ ss) zero e = none-text q (nums (s ∷ ss)) e
+done-from q (s ∷ ss) (suc k) e = ap (λ (t : List ℕ). shareText q (s .0) ++ t) (done-from (suc q) ss k e)
+
+pub shares-done : (ss : List Share) (k : ℕ) → parts (drop k (nums ss)) ≡ 0 → sharesText 1 (nums (take k ss)) ≡ sharesText 1 (nums ss)
+shares-done = done-from 1
+
+-- with one left there is a core left
+pub part-there : (ss : List Share) (k : ℕ) → 0 < parts (drop k (nums ss)) → k < length ss
+part-there ss k h =
+    let row : List ℕ = nums ss in
+    omega (arith, parts-len (drop k row), length-drop k row, length-map ss (λ (s : Share). s .0))
+
+module _ (ss : List Share) (k : ℕ) (h : k < length ss) where
+  -- what is left from core k on
+  part-next : parts (drop k (nums ss)) ≡ bit (ltb 0 (getD ss k (share 0) .0)) + parts (drop (k + 1) (nums ss))
+  part-next =
+      rw (add-one k, drop-cons (nums ss) k 0 (omega (arith, h, length-map ss (λ (s : Share). s .0))), nums-at ss k)
+      (parts-cons (getD ss k (share 0) .0) (drop (suc k) (nums ss)))
+
+  -- a positive share is one of them
+  pub part-less : 0 < getD ss k (share 0) .0 → parts (drop k (nums ss)) ≡ parts (drop (k + 1) (nums ss)) + 1
+  part-less e = omega (arith, part-next, ap bit (lt-ltb 0 (getD ss k (share 0) .0) e))
+
+  -- no share is none
+  pub part-same : getD ss k (share 0) .0 ≤ 0 → parts (drop k (nums ss)) ≡ parts (drop (k + 1) (nums ss))
+  part-same e = omega (arith, part-next, ap bit (le-ltb 0 (getD ss k (share 0) .0) e))
 
 -- the row of a task that moves
 pub row-moves : (row : List ℕ) → 1 < parts row → ascii " moves" ++ sharesText 1 row ≡ rowText row

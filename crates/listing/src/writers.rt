@@ -15,6 +15,7 @@ ghost use mathlib.Core.List.{_++_};
 ghost use Prim.Native.Nat.{_+_, _*_, _≤_};
 ghost use Rattle.units.specs.Limits.{tasksLimit};
 ghost use Rattle.units.specs.Units.{nums};
+ghost use Rattle.lists.specs.Lists.{parts as partsOf};
 ghost use Rattle.decimal.specs.Limits.{placeLimit};
 ghost use Rattle.decimal.specs.Wrote.{Wrote};
 ghost use Rattle.lateness.specs.Lateness.{latesOf};
@@ -33,17 +34,21 @@ fn put_share(buf: &mut [u8], at: usize, core: usize, share: Share) -> usize
     put_field(buf, next, b":", share.0 as u64)
 }
 
-// The positive shares of a row.
-fn put_shares(buf: &mut [u8], at: usize, shares: [Share; CORES]) -> usize
-    requires { ⌜ at + 800 ≤ placeLimit ⌝ }
+// The positive shares of a row, of which there are so many: past the last of them no core is looked at.
+fn put_shares(buf: &mut [u8], at: usize, shares: [Share; CORES], parts: usize) -> usize
+    requires { ⌜ (at + 800 ≤ placeLimit) × (parts ≡ partsOf (nums shares)) ⌝ }
     ensures { λ r. ⌜ Wrote (now (buf .entry)) at (sharesText 1 (nums shares)) (now (buf .exit)) r ⌝ }
     ensures { λ r. ⌜ r ≤ at + 800 ⌝ }
 {
     let mut next = at;
+    let mut left = parts;
     let mut p: usize = 0;
-    while p < CORES {
+    while 0 < left {
         let s = shares[p];
         next = put_share(buf, next, p + 1, s);
+        if 0 < s.0 {
+            left -= 1;
+        }
         p += 1;
     }
     next
@@ -55,12 +60,13 @@ fn put_row(buf: &mut [u8], at: usize, shares: [Share; CORES]) -> usize
     ensures { λ r. ⌜ Wrote (now (buf .entry)) at (rowText (nums shares)) (now (buf .exit)) r ⌝ }
     ensures { λ r. ⌜ r ≤ at + 806 ⌝ }
 {
-    if 1 < parts_of(shares) {
+    let parts = parts_of(shares);
+    if 1 < parts {
         let next = put_text(buf, at, b" moves");
-        put_shares(buf, next, shares)
+        put_shares(buf, next, shares, parts)
     } else {
         let next = put_text(buf, at, b" fixed");
-        put_shares(buf, next, shares)
+        put_shares(buf, next, shares, parts)
     }
 }
 
