@@ -5,25 +5,24 @@ use mathlib.Core.Logic.{_⊎_, inl, inr, ⊎-elim}
 use mathlib.Core.Bool.{Bool, true}
 use mathlib.Core.List.{List, [], _∷_, map}
 use native.Mathlib.Omega.{arith}
-use lib.Dec.{ltb, eqb}
+use lib.Dec.{ltb}
 use lib.ListN.{length, getD, List·getD-append, List·getD-map}
 use lib.Seq.{getD-at}
-use borrow.Author.Tests.{ltb-true, ltb-false, lt-ltb, eq-eqb}
+use borrow.Author.Tests.{ltb-true, ltb-false}
 use lib.IntN.{subℕ}
 use Rattle.units.specs.Limits.{coresLimit}
 use Rattle.lists.specs.Lists.{parts, seek}
 use Rattle.lists.specs.Rows.{count}
-use Rattle.lists.proofs.Tests.{by-cases, and-true}
-use Rattle.lists.proofs.Lists.{parts-le}
-use Rattle.lists.proofs.Parts.{first-has}
-use Rattle.assignment.specs.Movers.{has, moves, movesOn, firstCore, upper, lower}
+use Rattle.lists.proofs.Tests.{by-cases}
+use Rattle.assignment.specs.Movers.{moves, firstCore, upper, lower}
 use Rattle.placed.proofs.Words.{upper-first}
-use Rattle.placed.proofs.Properties.{share-core, lower-found}
+use Rattle.placed.proofs.Properties.{lower-found}
 use Rattle.planning.specs.declared.Line.{Line}
 use Rattle.planning.specs.declared.Plan.{Plan}
 use Rattle.planning.specs.Plan.{emptyLine, noLine, rowOf, tableOf}
 use Rattle.planning.specs.Kept.{PlanKept}
 use Rattle.lateness.specs.Lateness.{first, upperOn, lowerOn, reachOf, reachOn, reaches, late}
+use Rattle.lateness.proofs.Front.{first-there, lower-at}
 use Rattle.lateness.proofs.Reached.{reaches-length}
 use Rattle.lateness.proofs.Words.{reach-alone}
 
@@ -103,11 +102,9 @@ module _ (pl : Plan) (k : PlanKept pl) where
       let row : List ℕ = rowOf (getD lns i noLine) in
       let p : ℕ = firstCore row in
       let r = List·getD-map rowOf lns i noLine in
-      let g : 0 < getD row p 0 = first-has row (omega (arith, ltb-true 1 (parts row) e, parts-le row)) in
-      let low : lower p row ≡ true =
-      and-true (movesOn p row) (eqb p p) (and-true (moves row) (has p row) e (lt-ltb 0 (getD row p 0) g)) (eq-eqb p p refl) in
-      let f : seek (lower p) (map rowOf lns) ≡ i = lower-found (k .structure) p i (rw r low) in (
-        omega (arith, share-core (k .structure) i p (rw r g), k .cores-few),
+      let m : 1 < parts row = ltb-true 1 (parts row) e in
+      let f : seek (lower p) (map rowOf lns) ≡ i = lower-found (k .structure) p i (rw r (lower-at row p m refl)) in (
+        first-there pl k i m,
         first-seek (lower p) lns (rw f (line-there lns i e)) ∙ ap (λ (j : ℕ). getD lns j noLine) f,
       )
 

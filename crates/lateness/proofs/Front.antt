@@ -1,26 +1,35 @@
 -- One line more in front: on the cores where it is a mover it takes the place of what stood there.
 use Prim.Native.Nat.{ℕ, _+_, _<_}
-use mathlib.Core.Path.{_≡_, sym, ap₂, _∙_}
+use mathlib.Core.Path.{_≡_, refl, sym, ap₂, _∙_}
 use mathlib.Core.Bool.{Bool, true, false, cond, not, _&&_}
 use mathlib.Core.List.{List}
 use lib.Dec.{ltb, eqb}
-use lib.ListN.{getD, set}
-use borrow.Author.Tests.{lt-ltb}
+use native.Mathlib.Omega.{arith}
+use lib.ListN.{length, getD, set, List·getD-map}
+use lib.Seq.{getD-set-same, getD-set-other}
+use borrow.Author.Tests.{lt-ltb, eqb-true, eqb-false, eq-eqb, ne-eqb}
 use Rattle.units.specs.Limits.{coresLimit}
 use Rattle.units.specs.declared.share.Share.{Share}
 use Rattle.units.specs.Units.{share, nums}
 use Rattle.units.proofs.Units.{nums-at}
 use Rattle.lists.specs.Lists.{parts}
-use Rattle.assignment.specs.Movers.{firstCore, upper, lower}
+use Rattle.lists.proofs.Tests.{by-cases}
+use Rattle.lists.proofs.Lists.{parts-le}
+use Rattle.lists.proofs.Parts.{first-has}
+use Rattle.assignment.specs.Movers.{movesOn, firstCore, upper, lower}
+use Rattle.placed.proofs.Properties.{share-core}
 use Rattle.planning.specs.declared.Line.{Line}
-use Rattle.planning.specs.Plan.{rowOf}
+use Rattle.planning.specs.declared.Plan.{Plan}
+use Rattle.planning.specs.Plan.{noLine, rowOf}
+use Rattle.planning.specs.Kept.{PlanKept}
 use Rattle.lateness.specs.declared.movers.Mover.{Mover}
-use Rattle.lateness.specs.Cores.{moverOn, noMover}
+use Rattle.lateness.specs.Cores.{mover, moverOn, noMover, InFront}
 use Rattle.lateness.proofs.Filled.{Filled, filled-set, filled-skip}
 
--- a mover with its share and its first core
-abbrev pub mover : ℕ → Line → ℕ → Mover
-mover s ln f = record { share = s; cost = ln .cost .0; period = ln .period .0; first = f }
+-- a test that does not hold
+and-false : (a b : Bool) → b ≡ false → (a && b) ≡ false
+and-false true b e = e
+and-false false b e = refl
 
 -- p cores are passed
 abbrev pub Front : (ℕ → Bool) → (ℕ → Mover) → List Mover → ℕ → List Mover → Type 0
@@ -35,14 +44,40 @@ module _ (f : ℕ → Bool) (g : ℕ → Mover) (old : List Mover) (p : ℕ) (ne
   pub front-skip : f p ≡ false → Front f g old (p + 1) new
   front-skip e = filled-skip noMover coresLimit (λ q. cond (f q) (g q) (getD old q noMover)) old p new k h (rw e)
 
--- the tests that the code makes of a line that moves, with its first core f
 module _ (ss : List Share) (p f : ℕ) (e : 1 < parts (nums ss)) (g : f ≡ firstCore (nums ss)) where
+  -- the test that the code makes of a line that moves, with its first core f
   pub is-upper : (ltb 0 (getD ss p (share 0) .0) && not (eqb f p)) ≡ upper p (nums ss)
   is-upper = rw (lt-ltb 1 (parts (nums ss)) e, g, nums-at ss p)
-
-  pub is-lower : (ltb 0 (getD ss p (share 0) .0) && eqb f p) ≡ lower p (nums ss)
-  is-lower = rw (lt-ltb 1 (parts (nums ss)) e, g, nums-at ss p)
 
 -- what the code keeps of a line is its mover
 pub as-mover : (ln : Line) (p f : ℕ) → f ≡ firstCore (rowOf ln) → mover (getD (ln .shares) p (share 0) .0) ln f ≡ moverOn p ln
 as-mover ln p f e = ap₂ (λ (s q : ℕ). mover s ln q) (sym (nums-at (ln .shares) p)) e
+
+-- the first core of a line that moves is a core, and there it has a share
+pub first-some : (row : List ℕ) → 1 < parts row → 0 < getD row (firstCore row) 0
+first-some row h = first-has row (omega (arith, parts-le row))
+
+pub first-there : (pl : Plan) → PlanKept pl → (i : ℕ) →
+    let row = rowOf (getD (pl .lines) i noLine) in
+    1 < parts row → firstCore row < coresLimit
+first-there pl k i h =
+    let row : List ℕ = rowOf (getD (pl .lines) i noLine) in
+    let r = List·getD-map rowOf (pl .lines) i noLine in
+    omega (arith, share-core (k .structure) i (firstCore row) (rw r (first-some row h)), k .cores-few)
+
+-- it is lower there and nowhere else
+pub lower-at : (row : List ℕ) (p : ℕ) → 1 < parts row → p ≡ firstCore row → lower p row ≡ true
+lower-at row p h e = rw (e, lt-ltb 1 (parts row) h, lt-ltb 0 (getD row (firstCore row) 0) (first-some row h), eq-eqb (firstCore row) (firstCore row) refl) refl
+
+lower-off : (row : List ℕ) (p : ℕ) → (p ≡ firstCore row → ⊥) → lower p row ≡ false
+lower-off row p h = and-false (movesOn p row) (eqb (firstCore row) p) (ne-eqb (firstCore row) p (λ e. h (sym e)))
+
+-- so its place alone is taken among the lower movers
+pub lower-front : (ln : Line) (ms : List Mover) (f : ℕ) (m : Mover) → 1 < parts (rowOf ln) → f ≡ firstCore (rowOf ln) → m ≡ moverOn f ln
+    → f < length ms → InFront (λ p. lower p (rowOf ln)) ln ms (set ms f m)
+lower-front ln ms f m h e i l p k =
+    by-cases (eqb p f)
+    (λ t.
+    let q : p ≡ f = eqb-true p f t in
+    rw (lower-at (rowOf ln) p h (q ∙ e), q) (getD-set-same ms f m noMover l ∙ i))
+    (λ t. rw (lower-off (rowOf ln) p (λ q. eqb-false p f t (q ∙ sym e))) (getD-set-other ms f p m noMover (eqb-false p f t)))

@@ -15,7 +15,7 @@ use Rattle.assignment.specs.Movers.{upper, lower}
 use Rattle.lateness.specs.declared.movers.Mover.{Mover}
 use Rattle.lateness.specs.declared.movers.Movers.{Movers}
 use Rattle.lateness.specs.Lateness.{upperOn, lowerOn}
-use Rattle.lateness.specs.Cores.{moverOn, noMover, WithLine, MoversOf}
+use Rattle.lateness.specs.Cores.{moverOn, noMover, InFront, MoversOf}
 use Rattle.lateness.proofs.Pair.{empty-share}
 
 -- the empty line as a mover
@@ -40,16 +40,18 @@ chosen true p ln rest e = refl
 chosen false p ln rest e = e
 
 -- a line more
-pub gathered-next : (lns : List Line) (i : ℕ) (ms new : Movers) → i < length lns → MoversOf (drop (i + 1) lns) ms
-    → WithLine ms (getD lns i noLine) new → MoversOf (drop i lns) new
-gathered-next lns i ms new h k w = rw (drop-cons lns i noLine h, ← (add-one i)) (record {
-  uppers = λ p l. w .uppers p l ∙ chosen (upper p (rowOf (getD lns i noLine))) p (getD lns i noLine) (upperOn p (drop (i + 1) lns)) (k .uppers p l);
-  lowers = λ p l. w .lowers p l ∙ chosen (lower p (rowOf (getD lns i noLine))) p (getD lns i noLine) (lowerOn p (drop (i + 1) lns)) (k .lowers p l);
+pub gathered-next : (lns : List Line) (i : ℕ) (ms new : Movers) → i < length lns → MoversOf (drop (i + 1) lns) ms →
+    let ln = getD lns i noLine in
+    InFront (λ p. upper p (rowOf ln)) ln (ms .upper) (new .upper) → InFront (λ p. lower p (rowOf ln)) ln (ms .lower) (new .lower)
+    → MoversOf (drop i lns) new
+gathered-next lns i ms new h k u w = rw (drop-cons lns i noLine h, ← (add-one i)) (record {
+  uppers = λ p l. u p l ∙ chosen (upper p (rowOf (getD lns i noLine))) p (getD lns i noLine) (upperOn p (drop (i + 1) lns)) (k .uppers p l);
+  lowers = λ p l. w p l ∙ chosen (lower p (rowOf (getD lns i noLine))) p (getD lns i noLine) (lowerOn p (drop (i + 1) lns)) (k .lowers p l);
 })
 
 -- a line that does not move changes nothing
-pub unmoved : (ms : Movers) (ln : Line) → parts (rowOf ln) ≤ 1 → WithLine ms ln ms
-unmoved ms ln h = record {
-  uppers = λ p l. rw (le-ltb 1 (parts (rowOf ln)) h) refl;
-  lowers = λ p l. rw (le-ltb 1 (parts (rowOf ln)) h) refl;
-}
+pub unmoved-upper : (ms : List Mover) (ln : Line) → parts (rowOf ln) ≤ 1 → InFront (λ p. upper p (rowOf ln)) ln ms ms
+unmoved-upper ms ln h p l = rw (le-ltb 1 (parts (rowOf ln)) h) refl
+
+pub unmoved-lower : (ms : List Mover) (ln : Line) → parts (rowOf ln) ≤ 1 → InFront (λ p. lower p (rowOf ln)) ln ms ms
+unmoved-lower ms ln h p l = rw (le-ltb 1 (parts (rowOf ln)) h) refl

@@ -1,32 +1,35 @@
 -- The movers of each core and the numbers of each task, as the code keeps them.
 use Prim.Native.Nat.{ℕ, _+_, _*_, _-_, _<_}
 use mathlib.Core.Path.{_≡_}
-use mathlib.Core.Bool.{cond}
+use mathlib.Core.Bool.{Bool, cond}
 use mathlib.Core.List.{List}
 use lib.Dec.{ltb}
 use lib.IntN.{ℤ, pos, subℕ}
 use lib.ListN.{getD}
 use Rattle.units.specs.Limits.{coresLimit}
 use Rattle.arith.specs.Ceiling.{ceilDiv}
-use Rattle.assignment.specs.Movers.{moves, firstCore, upper, lower}
+use Rattle.assignment.specs.Movers.{moves, firstCore}
 use Rattle.planning.specs.declared.Line.{Line}
 use Rattle.planning.specs.Plan.{rowOf}
 use Rattle.lateness.specs.declared.movers.Mover.{Mover}
 use Rattle.lateness.specs.declared.movers.Movers.{Movers}
 use Rattle.lateness.specs.Lateness.{upperOn, lowerOn, shareOn}
 
--- a line as a mover on core p
+-- a line as a mover with the share s and the first core f
+abbrev pub mover : ℕ → Line → ℕ → Mover
+mover s ln f = record { share = s; cost = ln .cost .0; period = ln .period .0; first = f }
+
+-- as it is on core p
 abbrev pub moverOn : ℕ → Line → Mover
-moverOn p ln = record { share = shareOn p ln; cost = ln .cost .0; period = ln .period .0; first = firstCore (rowOf ln) }
+moverOn p ln = mover (shareOn p ln) ln (firstCore (rowOf ln))
 
 -- what stands past the last core
 abbrev pub noMover : Mover
 noMover = record { share = 0; cost = 0; period = 0; first = 0 }
 
--- the movers with one line more in front
-pub record WithLine (ms : Movers) (ln : Line) (new : Movers) : Type 0 where
-  pub uppers : (p : ℕ) → p < coresLimit → getD (new .upper) p noMover ≡ cond (upper p (rowOf ln)) (moverOn p ln) (getD (ms .upper) p noMover)
-  pub lowers : (p : ℕ) → p < coresLimit → getD (new .lower) p noMover ≡ cond (lower p (rowOf ln)) (moverOn p ln) (getD (ms .lower) p noMover)
+-- the movers of each core with one line more in front, which takes the place of those on the cores of a test
+abbrev pub InFront : (ℕ → Bool) → Line → List Mover → List Mover → Type 0
+InFront f ln ms new = (p : ℕ) → p < coresLimit → getD new p noMover ≡ cond (f p) (moverOn p ln) (getD ms p noMover)
 
 -- the movers of lines, on each core
 pub record MoversOf (lns : List Line) (ms : Movers) : Type 0 where

@@ -1,6 +1,7 @@
 // The bounds, by rising first core.
 use crate::movers::Mover;
 use crate::movers::Movers;
+use crate::movers::mover_on;
 use crate::movers::with_line;
 use arith::ceiling::ceil_div;
 use planning::Plan;
@@ -131,10 +132,8 @@ pub fn bounds_of(plan: Plan) -> [i64; TASKS]
     requires { ⌜ PlanKept plan ⌝ }
     ensures { λ r. ⌜ r ≡ latesOf plan ⌝ }
 {
-    let mut movers = Movers {
-        upper: [Mover::NONE; CORES],
-        lower: [Mover::NONE; CORES],
-    };
+    let mut upper = [Mover::NONE; CORES];
+    let mut lower = [Mover::NONE; CORES];
     let mut firsts = [0usize; TASKS];
     let mut gaps = [0u64; TASKS];
     let mut i: usize = TASKS;
@@ -146,11 +145,19 @@ pub fn bounds_of(plan: Plan) -> [i64; TASKS]
         firsts[i] = first;
         if 1 < parts_of(shares) {
             gaps[i] = line.period.0 + 1;
-            movers = with_line(movers, line, first);
+            let s = shares[first];
+            let mover = mover_on(s, line, first);
+            lower[first] = mover;
+            let above = with_line(upper, line, first);
+            upper = above;
         } else {
             gaps[i] = 0;
         }
     }
+    let movers = Movers {
+        upper: upper,
+        lower: lower,
+    };
     let reaches = reaches_of(plan, movers);
     let fixed = fixed_of(plan, movers, &reaches);
     lates_of(&firsts, &gaps, &reaches, &fixed)

@@ -1,12 +1,13 @@
 // The movers of each core.
 use planning::Line;
 use units::limits::CORES;
+use units::share::Share;
 ghost use mathlib.Core.Path.{_≡_};
 ghost use Prim.Native.Nat.{_<_};
 ghost use Rattle.lists.specs.Lists.{parts};
-ghost use Rattle.assignment.specs.Movers.{firstCore};
+ghost use Rattle.assignment.specs.Movers.{firstCore, upper};
 ghost use Rattle.planning.specs.Plan.{rowOf};
-ghost use Rattle.lateness.specs.Cores.{WithLine};
+ghost use Rattle.lateness.specs.Cores.{mover, InFront};
 
 // A mover on a core: its share there, its cost, its period and its first core.
 pub struct Mover {
@@ -31,36 +32,35 @@ pub struct Movers {
     pub lower: [Mover; CORES],
 }
 
-// The movers with one line more in front, which moves.
-pub fn with_line(movers: Movers, line: Line, first: usize) -> Movers
+// A line with a share on a core as a mover there.
+pub fn mover_on(share: Share, line: Line, first: usize) -> Mover
+    ensures { λ r. ⌜ r ≡ mover (share .0) line first ⌝ }
+{
+    let own = share.0 as u64;
+    Mover {
+        share: own,
+        cost: line.cost.0,
+        period: line.period.0,
+        first: first,
+    }
+}
+
+// The upper movers with one line more in front, which moves.
+pub fn with_line(above: [Mover; CORES], line: Line, first: usize) -> [Mover; CORES]
     requires { ⌜ (1 < parts (rowOf line)) × (first ≡ firstCore (rowOf line)) ⌝ }
-    ensures { λ r. ⌜ WithLine movers line r ⌝ }
+    ensures { λ r. ⌜ InFront (λ p. upper p (rowOf line)) line above r ⌝ }
 {
     let shares = line.shares;
-    let mut upper = movers.upper;
-    let mut lower = movers.lower;
+    let mut movers = above;
     let mut p: usize = 0;
     while p < CORES {
         let s = shares[p];
-        let share = s.0 as u64;
-        let mover = Mover {
-            share: share,
-            cost: line.cost.0,
-            period: line.period.0,
-            first: first,
-        };
-        let is_lower = (0 < s.0) & (first == p);
-        if is_lower {
-            lower[p] = mover;
-        }
         let is_upper = (0 < s.0) & !(first == p);
         if is_upper {
-            upper[p] = mover;
+            let mover = mover_on(s, line, first);
+            movers[p] = mover;
         }
         p += 1;
     }
-    Movers {
-        upper: upper,
-        lower: lower,
-    }
+    movers
 }

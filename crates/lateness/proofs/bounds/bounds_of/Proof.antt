@@ -2,33 +2,36 @@
 use Prim.Native.Nat.{ℕ, _+_, _-_, _≤_, _<_}
 use mathlib.Core.Path.{_≡_, refl, sym, _∙_}
 use native.Mathlib.Omega.{arith}
-use lib.ListN.{length, getD, drop, length-map}
-use Rattle.units.specs.Limits.{tasksLimit}
+use lib.ListN.{length, getD, drop, set, length-set, length-map}
+use Rattle.units.specs.Limits.{tasksLimit, coresLimit}
 use Rattle.lists.specs.Lists.{parts}
 use Rattle.lists.proofs.Lists.{most-ge}
+use Rattle.planning.specs.declared.Line.{Line}
 use Rattle.planning.specs.Plan.{noLine, rowOf}
+use Rattle.lateness.specs.declared.movers.Movers.{Movers}
 use Rattle.lateness.specs.Cores.{MoversOf}
 use Rattle.lateness.proofs.Noted.{Noted, noted-none, noted-next}
-use Rattle.lateness.proofs.Gathered.{gathered-none, gathered-next, unmoved}
+use Rattle.lateness.proofs.Front.{as-mover, first-there, lower-front}
+use Rattle.lateness.proofs.Gathered.{gathered-none, gathered-next, unmoved-upper, unmoved-lower}
 use Rattle.lateness.proofs.Tasks.{firstAt, gapAt, gap-moves, gap-fixed, gaps-small, reaches-small, fixed-small, tasks-late}
 use borrow.Author.Needs.{needs}
 use Rattle.lateness.proofs.bounds.bounds_of.Statement.{statement}
 use Rattle.lateness.proofs.bounds.bounds_of.Tie as tie
 
 abbrev Inv-loop : tie.InvT-loop
-Inv-loop plan movers₀ firsts₀ gaps₀ i₀ movers firsts gaps i =
-    (i ≤ tasksLimit) × MoversOf (drop i (plan .lines)) movers
+Inv-loop plan upper₀ lower₀ firsts₀ gaps₀ i₀ upper lower firsts gaps i =
+    (i ≤ tasksLimit) × MoversOf (drop i (plan .lines)) (record { upper = upper; lower = lower }) × (length lower ≡ coresLimit)
     × Noted tasksLimit (firstAt plan) i firsts × Noted tasksLimit (gapAt plan) i gaps
 
 abbrev μ-loop : tie.MeasureT-loop
-μ-loop plan movers₀ firsts₀ gaps₀ i₀ movers firsts gaps i = i
+μ-loop plan upper₀ lower₀ firsts₀ gaps₀ i₀ upper lower firsts gaps i = i
 
 -- the lines of all tasks
 lines-long : (s : tie.Start Inv-loop μ-loop) → length (s .args .t1 .lines) ≡ tasksLimit
 lines-long s = sym (length-map (s .args .t1 .lines) _) ∙ s .good .0 .1 .1 .1 .1 .1 .0 .1 .0 .1
 
 -- after the loop all movers are known
-all : (c : tie.After-loop Inv-loop μ-loop) → MoversOf (c .before .before .args .t1 .lines) (c .before .loop .movers)
+all : (c : tie.After-loop Inv-loop μ-loop) → MoversOf (c .before .before .args .t1 .lines) (record { upper = c .before .loop .upper; lower = c .before .loop .lower })
 all c =
     let e : c .before .loop .i ≡ 0 = omega arith in
     rw e at (c .before .loop .inv .1)
@@ -40,12 +43,26 @@ noted : (c : tie.After-loop Inv-loop μ-loop) →
     Noted tasksLimit (firstAt pl) 0 (at .firsts) × Noted tasksLimit (gapAt pl) 0 (at .gaps)
 noted c =
     let e : c .before .loop .i ≡ 0 = omega arith in
-    (rw e at (c .before .loop .inv .2), rw e at (c .before .loop .inv .3))
+    (rw e at (c .before .loop .inv .3), rw e at (c .before .loop .inv .4))
+
+-- the line that is read
+abbrev read : tie.At-loop Inv-loop μ-loop → Line
+read at = getD (at .before .args .t1 .lines) (at .loop .i - 1) noLine
+
+-- if it moves its first core is a core
+core-there : (c : tie.After-struct-known Inv-loop μ-loop) →
+    (1 < parts (rowOf (read (c .before .before .before .before .before .before .before)))) × (c .before .before .before .first-core .result < coresLimit)
+core-there c =
+    let q = c .before .before in
+    let at = q .before .before .before .before .before in
+    let ln = read at in
+    let m : 1 < parts (rowOf ln) = omega (arith, q .parts-of .ensures, c .before .if1 .taken) in
+    (m, omega (arith, q .before .first-core .ensures, first-there (at .before .args .t1) (at .before .pre) (at .loop .i - 1) m))
 
 loop-holds : tie.Need-loop-holds Inv-loop μ-loop
 loop-holds c =
     let l = lines-long c in
-    (omega arith, gathered-none (c .args .t1 .lines) tasksLimit (omega arith), noted-none _ _ _ refl, noted-none _ _ _ refl)
+    (omega arith, gathered-none (c .args .t1 .lines) tasksLimit (omega arith), refl, noted-none _ _ _ refl, noted-none _ _ _ refl)
 
 sub-i : tie.Need-sub-i Inv-loop μ-loop
 sub-i c = omega arith
@@ -79,6 +96,21 @@ mul-gaps c = omega arith
 array-write-gaps : tie.Need-array-write-gaps Inv-loop μ-loop
 array-write-gaps c = omega arith
 
+mul-s : tie.Need-mul-s Inv-loop μ-loop
+mul-s c = omega (arith, core-there c .1)
+
+array-copy-out-s : tie.Need-array-copy-out-s Inv-loop μ-loop
+array-copy-out-s c = omega (arith, core-there c .1)
+
+mover-on-requires : tie.Need-mover-on-requires Inv-loop μ-loop
+mover-on-requires c κs = search needs
+
+mul-lower : tie.Need-mul-lower Inv-loop μ-loop
+mul-lower c = omega (arith, core-there (c .before .before) .1)
+
+array-set-from-lower : tie.Need-array-set-from-lower Inv-loop μ-loop
+array-set-from-lower c = omega (arith, core-there (c .before .before) .1)
+
 with-line-requires : tie.Need-with-line-requires Inv-loop μ-loop
 with-line-requires c κs = search needs
 
@@ -87,18 +119,23 @@ loop-less c = omega arith
 
 loop-again : tie.Need-loop-again Inv-loop μ-loop
 loop-again c =
-    let q = c .before .before .before in
+    let o = c .before in
+    let q = o .before .before .before .before in
     let at = q .before .before .before .before .before in
     let pl = at .before .args .t1 in
     let j : ℕ = at .loop .i - 1 in
     let e : j + 1 ≡ at .loop .i = omega arith in
     let h : j < tasksLimit = omega arith in
-    let f = q .before .first-core in (
+    let f = q .before .first-core in
+    let t = core-there (o .before .before) in
+    let ln = read at in
+    let low = lower-front ln (at .loop .lower) (f .result) (o .mover-on .result) (t .0) (f .ensures) (o .mover-on .ensures ∙ as-mover ln (f .result) (f .result) (f .ensures)) (omega (arith, t .1, at .loop .inv .2)) in (
       omega arith,
-      gathered-next (pl .lines) j (at .loop .movers) (c .with-line .result) (omega (arith, lines-long (at .before))) (rw e (at .loop .inv .1)) (c .with-line .ensures),
-      noted-next _ (firstAt pl) (at .loop .firsts) j (f .result) (rw e (at .loop .inv .2)) h (f .ensures),
-      noted-next _ (gapAt pl) (at .loop .gaps) j _ (rw e (at .loop .inv .3)) h
-          (gap-moves (getD (pl .lines) j noLine) (omega (arith, q .parts-of .ensures, c .before .before .if1 .taken))),
+      gathered-next (pl .lines) j (record { upper = at .loop .upper; lower = at .loop .lower }) (record { upper = c .with-line .result; lower = set (at .loop .lower) (f .result) (o .mover-on .result) })
+          (omega (arith, lines-long (at .before))) (rw e (at .loop .inv .1)) (c .with-line .ensures) low,
+      length-set (at .loop .lower) (f .result) (o .mover-on .result) ∙ at .loop .inv .2,
+      noted-next _ (firstAt pl) (at .loop .firsts) j (f .result) (rw e (at .loop .inv .3)) h (f .ensures),
+      noted-next _ (gapAt pl) (at .loop .gaps) j _ (rw e (at .loop .inv .4)) h (gap-moves ln (t .0)),
     )
 
 mul-gaps-2 : tie.Need-mul-gaps-2 Inv-loop μ-loop
@@ -119,11 +156,15 @@ loop-again-2 c =
     let e : j + 1 ≡ at .loop .i = omega arith in
     let h : j < tasksLimit = omega arith in
     let f = q .before .first-core in
-    let k : parts (rowOf (getD (pl .lines) j noLine)) ≤ 1 = omega (arith, q .parts-of .ensures, c .if1 .left) in (
+    let ms : Movers = record { upper = at .loop .upper; lower = at .loop .lower } in
+    let ln = read at in
+    let k : parts (rowOf ln) ≤ 1 = omega (arith, q .parts-of .ensures, c .if1 .left) in (
       omega arith,
-      gathered-next (pl .lines) j (at .loop .movers) (at .loop .movers) (omega (arith, lines-long (at .before))) (rw e (at .loop .inv .1)) (unmoved (at .loop .movers) _ k),
-      noted-next _ (firstAt pl) (at .loop .firsts) j (f .result) (rw e (at .loop .inv .2)) h (f .ensures),
-      noted-next _ (gapAt pl) (at .loop .gaps) j 0 (rw e (at .loop .inv .3)) h (gap-fixed (getD (pl .lines) j noLine) k),
+      gathered-next (pl .lines) j ms ms (omega (arith, lines-long (at .before))) (rw e (at .loop .inv .1))
+          (unmoved-upper (at .loop .upper) ln k) (unmoved-lower (at .loop .lower) ln k),
+      at .loop .inv .2,
+      noted-next _ (firstAt pl) (at .loop .firsts) j (f .result) (rw e (at .loop .inv .3)) h (f .ensures),
+      noted-next _ (gapAt pl) (at .loop .gaps) j 0 (rw e (at .loop .inv .4)) h (gap-fixed ln k),
     )
 
 reaches-of-requires : tie.Need-reaches-of-requires Inv-loop μ-loop
@@ -180,6 +221,11 @@ bounds-of-spec =
     add-gaps
     mul-gaps
     array-write-gaps
+    mul-s
+    array-copy-out-s
+    mover-on-requires
+    mul-lower
+    array-set-from-lower
     with-line-requires
     loop-less
     loop-again
