@@ -28,39 +28,54 @@ impl Figure {
         }
     }
 
-    /// Nanoseconds of one operation, by one side's way to time a round.
-    fn each(&self, round: impl Fn(&[Call]) -> f64) -> f64 {
-        if self.kind != 'c' {
-            return round(&self.calls);
-        }
-        let base = if self.less.is_empty() {
+    /// Nanoseconds of a round, and of the round that is taken off it.
+    fn rounds(&self, round: impl Fn(&[Call]) -> f64) -> (f64, f64) {
+        let less = if self.less.is_empty() {
             0.0
         } else {
             round(&self.less)
         };
-        (round(&self.calls) - base) / (self.calls.len() - self.less.len()) as f64
+        (round(&self.calls), less)
+    }
+
+    /// Nanoseconds of one operation.
+    fn each(&self, whole: f64, less: f64) -> f64 {
+        if self.kind != 'c' {
+            return whole;
+        }
+        (whole - less) / (self.calls.len() - self.less.len()) as f64
     }
 
     /// A line `name ours second ratio`, with the spread of the ratio.
     fn show(&self, name: &str, command: &[String], bench: &Bench) {
-        let both: Vec<(f64, f64)> = (0..TIMES)
+        let times: Vec<[(f64, f64); 2]> = (0..TIMES)
             .map(|_| {
-                (
-                    self.each(|calls| ours::round(command, bench, self.kind, self.rounds, calls)),
-                    self.each(|calls| theirs::round(bench, self.kind, self.rounds, calls)),
-                )
+                [
+                    self.rounds(|calls| ours::round(command, bench, self.kind, self.rounds, calls)),
+                    self.rounds(|calls| theirs::round(bench, self.kind, self.rounds, calls)),
+                ]
             })
             .collect();
-        let least = |times: &mut dyn Iterator<Item = f64>| times.fold(f64::INFINITY, f64::min);
-        let ours = least(&mut both.iter().map(|pair| pair.0));
-        let theirs = least(&mut both.iter().map(|pair| pair.1));
-        let low = least(&mut both.iter().map(|pair| pair.0 / pair.1));
-        let high = 1.0 / least(&mut both.iter().map(|pair| pair.1 / pair.0));
+        let least = |side: usize| {
+            let whole = least_of(times.iter().map(|time| time[side].0));
+            self.each(whole, least_of(times.iter().map(|time| time[side].1)))
+        };
+        let ratio = |time: &[(f64, f64); 2]| {
+            self.each(time[0].0, time[0].1) / self.each(time[1].0, time[1].1)
+        };
         println!(
-            "{name} {ours:.0} {theirs:.0} {:.2} ({low:.2} to {high:.2})",
-            ours / theirs
+            "{name} {:.0} {:.0} {:.2} ({:.2} to {:.2})",
+            least(0),
+            least(1),
+            least(0) / least(1),
+            least_of(times.iter().map(ratio)),
+            -least_of(times.iter().map(|time| -ratio(time))),
         );
     }
+}
+
+fn least_of(times: impl Iterator<Item = f64>) -> f64 {
+    times.fold(f64::INFINITY, f64::min)
 }
 
 /// Every figure of a box, with a word after its name.
