@@ -16,10 +16,10 @@ push-le k = mul-le-mul {n₂ = commonLimit} {m₂ = reachLimit + periodLimit} (k
 
 -- that of both movers, and L × 2C of both
 pub work-le : {l : ℕ} {rs : List ℕ} {h m : Mover} → SmallPair l rs h m
-    → pushBy rs h + pushBy rs m + l * (2 * h .cost + 2 * m .cost)
+    → pushBy rs h + pushBy rs m + l * (2 * h .cost .0 + 2 * m .cost .0)
     ≤ 2 * (commonLimit * (reachLimit + periodLimit)) + commonLimit * (4 * periodLimit)
 work-le {l} {rs} {h} {m} k =
-    let own : l * (2 * h .cost + 2 * m .cost) ≤ commonLimit * (4 * periodLimit) =
+    let own : l * (2 * h .cost .0 + 2 * m .cost .0) ≤ commonLimit * (4 * periodLimit) =
     mul-le-mul {n₂ = commonLimit} {m₂ = 4 * periodLimit} (k .common) (omega (arith, k .upper .cost, k .lower .cost)) in
     omega (arith, push-le (k .upper), push-le (k .lower))
 

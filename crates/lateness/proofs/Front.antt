@@ -50,8 +50,8 @@ module _ (ss : List Share) (p f : ℕ) (e : 1 < parts (nums ss)) (g : f ≡ firs
   is-upper = rw (lt-ltb 1 (parts (nums ss)) e, g, nums-at ss p)
 
 -- what the code keeps of a line is its mover
-pub as-mover : (ln : Line) (p f : ℕ) → f ≡ firstCore (rowOf ln) → mover (getD (ln .shares) p (share 0) .0) ln f ≡ moverOn p ln
-as-mover ln p f e = ap₂ (λ (s q : ℕ). mover s ln q) (sym (nums-at (ln .shares) p)) e
+pub as-mover : (ln : Line) (p f : ℕ) → f ≡ firstCore (rowOf ln) → mover (getD (ln .shares) p (share 0)) ln f ≡ moverOn p ln
+as-mover ln p f e = ap₂ (λ (s q : ℕ). mover (share s) ln q) (sym (nums-at (ln .shares) p)) e
 
 -- the first core of a line that moves is a core, and there it has a share
 pub first-some : (row : List ℕ) → 1 < parts row → 0 < getD row (firstCore row) 0

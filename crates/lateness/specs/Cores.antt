@@ -7,6 +7,8 @@ use lib.Dec.{ltb}
 use lib.IntN.{ℤ, pos, subℕ}
 use lib.ListN.{getD}
 use Rattle.units.specs.Limits.{coresLimit}
+use Rattle.units.specs.declared.share.Share.{Share}
+use Rattle.units.specs.Units.{share, ticks}
 use Rattle.arith.specs.Ceiling.{ceilDiv}
 use Rattle.assignment.specs.Movers.{moves, firstCore}
 use Rattle.planning.specs.declared.Line.{Line}
@@ -16,16 +18,16 @@ use Rattle.lateness.specs.declared.movers.Movers.{Movers}
 use Rattle.lateness.specs.Lateness.{upperOn, lowerOn, shareOn}
 
 -- a line as a mover with the share s and the first core f
-abbrev pub mover : ℕ → Line → ℕ → Mover
-mover s ln f = record { share = s; cost = ln .cost .0; period = ln .period .0; first = f }
+abbrev pub mover : Share → Line → ℕ → Mover
+mover s ln f = record { share = s; cost = ln .cost; period = ln .period; first = f }
 
 -- as it is on core p
 abbrev pub moverOn : ℕ → Line → Mover
-moverOn p ln = mover (shareOn p ln) ln (firstCore (rowOf ln))
+moverOn p ln = mover (share (shareOn p ln)) ln (firstCore (rowOf ln))
 
 -- what stands past the last core
 abbrev pub noMover : Mover
-noMover = record { share = 0; cost = 0; period = 0; first = 0 }
+noMover = record { share = share 0; cost = ticks 0; period = ticks 0; first = 0 }
 
 -- the movers of each core with one line more in front, which takes the place of those on the cores of a test
 abbrev pub InFront : (ℕ → Bool) → Line → List Mover → List Mover → Type 0
@@ -38,15 +40,15 @@ pub record MoversOf (lns : List Line) (ms : Movers) : Type 0 where
 
 -- s × (D + 2T) of a mover
 abbrev pub pushBy : List ℕ → Mover → ℕ
-pushBy rs m = m .share * (getD rs (m .first) 0 + m .period)
+pushBy rs m = m .share .0 * (getD rs (m .first) 0 + m .period .0)
 
 -- the reach of a lower mover m, with the upper mover h
 abbrev pub reachBy : ℕ → List ℕ → Mover → Mover → ℕ
-reachBy l rs h m = ceilDiv (pushBy rs h + l * (2 * h .cost + m .cost)) (l - h .share)
+reachBy l rs h m = ceilDiv (pushBy rs h + l * (2 * h .cost .0 + m .cost .0)) (l - h .share .0)
 
 -- a fixed task's bound, from the upper mover h and the lower mover m of its core
 abbrev pub pairLate : ℕ → List ℕ → Mover → Mover → ℕ
-pairLate l rs h m = ceilDiv (pushBy rs h + pushBy rs m + l * (2 * h .cost + 2 * m .cost)) (l - h .share - m .share)
+pairLate l rs h m = ceilDiv (pushBy rs h + pushBy rs m + l * (2 * h .cost .0 + 2 * m .cost .0)) (l - h .share .0 - m .share .0)
 
 -- one more than a mover's period, 0 of a task that does not move
 abbrev pub gapOf : Line → ℕ

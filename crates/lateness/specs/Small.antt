@@ -16,15 +16,15 @@ lateLimit = 1000000000
 
 -- a mover, with the reaches of movers by their first core
 pub record Small (rs : List ℕ) (m : Mover) : Type 0 where
-  pub share : m .share ≤ commonLimit
+  pub share : m .share .0 ≤ commonLimit
   pub reach : getD rs (m .first) 0 ≤ reachLimit
-  pub period : m .period ≤ periodLimit
-  pub cost : m .cost ≤ periodLimit
+  pub period : m .period .0 ≤ periodLimit
+  pub cost : m .cost .0 ≤ periodLimit
 
 -- the upper mover h and the lower mover m of a core, which has l units
 pub record SmallPair (l : ℕ) (rs : List ℕ) (h m : Mover) : Type 0 where
   pub common : l ≤ commonLimit
-  pub room : h .share + m .share ≤ l
+  pub room : h .share .0 + m .share .0 ≤ l
   pub upper : Small rs h
   pub lower : Small rs m
 

@@ -34,7 +34,7 @@ fn push(reaches: &[u64; CORES], mover: Mover) -> u64
     ensures { λ r. ⌜ r ≡ pushBy (now (reaches .entry)) mover ⌝ }
 {
     let reach = at(reaches, mover.first);
-    mover.share * (reach + mover.period)
+    mover.share.0 as u64 * (reach + mover.period.0)
 }
 
 // The reach of a core's lower mover, (s × (D + 2T) + L × (2C' + C)) / (L − s) rounded up, with the upper mover's s, D, T and C'.
@@ -43,8 +43,8 @@ fn reach_on(common: u32, reaches: &[u64; CORES], upper: Mover, lower: Mover) -> 
     ensures { λ r. ⌜ r ≡ reachBy common (now (reaches .entry)) upper lower ⌝ }
 {
     let l = common as u64;
-    let own = l * (2 * upper.cost + lower.cost);
-    ceil_div(push(reaches, upper) + own, l - upper.share)
+    let own = l * (2 * upper.cost.0 + lower.cost.0);
+    ceil_div(push(reaches, upper) + own, l - upper.share.0 as u64)
 }
 
 // The bound of a core's fixed tasks.
@@ -53,10 +53,10 @@ fn fixed_on(common: u32, reaches: &[u64; CORES], upper: Mover, lower: Mover) -> 
     ensures { λ r. ⌜ r ≡ pairLate common (now (reaches .entry)) upper lower ⌝ }
 {
     let l = common as u64;
-    let own = l * (2 * upper.cost + 2 * lower.cost);
+    let own = l * (2 * upper.cost.0 + 2 * lower.cost.0);
     ceil_div(
         push(reaches, upper) + push(reaches, lower) + own,
-        l - upper.share - lower.share,
+        l - upper.share.0 as u64 - lower.share.0 as u64,
     )
 }
 

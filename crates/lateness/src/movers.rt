@@ -2,6 +2,7 @@
 use planning::Line;
 use units::limits::CORES;
 use units::share::Share;
+use units::ticks::Ticks;
 ghost use mathlib.Core.Path.{_≡_};
 ghost use Prim.Native.Nat.{_<_};
 ghost use Rattle.lists.specs.Lists.{parts};
@@ -11,17 +12,17 @@ ghost use Rattle.lateness.specs.Cores.{mover, InFront};
 
 // A mover on a core: its share there, its cost, its period and its first core.
 pub struct Mover {
-    pub share: u64,
-    pub cost: u64,
-    pub period: u64,
+    pub share: Share,
+    pub cost: Ticks,
+    pub period: Ticks,
     pub first: usize,
 }
 
 impl Mover {
     pub const NONE: Mover = Mover {
-        share: 0,
-        cost: 0,
-        period: 0,
+        share: Share::EMPTY,
+        cost: Ticks(0),
+        period: Ticks(0),
         first: CORES,
     };
 }
@@ -34,13 +35,14 @@ pub struct Movers {
 
 // A line with a share on a core as a mover there.
 pub fn mover_on(share: Share, line: Line, first: usize) -> Mover
-    ensures { λ r. ⌜ r ≡ mover (share .0) line first ⌝ }
+    ensures { λ r. ⌜ r ≡ mover share line first ⌝ }
 {
-    let own = share.0 as u64;
+    let cost = line.cost;
+    let period = line.period;
     Mover {
-        share: own,
-        cost: line.cost.0,
-        period: line.period.0,
+        share: share,
+        cost: cost,
+        period: period,
         first: first,
     }
 }

@@ -29,8 +29,14 @@ add-ceil-div c = omega (arith, c .before .push .ensures, c .push2 .ensures, work
 add-ceil-div-2 : tie.Need-add-ceil-div-2
 add-ceil-div-2 c = omega (arith, c .before .push .ensures, c .push2 .ensures, work-le (c .before .before .before .before .pre .1))
 
+cast-ceil-div : tie.Need-cast-ceil-div
+cast-ceil-div c = search needs
+
 sub-ceil-div : tie.Need-sub-ceil-div
 sub-ceil-div c = omega (arith, c .before .before .before .before .before .pre .1 .room)
+
+cast-ceil-div-2 : tie.Need-cast-ceil-div-2
+cast-ceil-div-2 c = search needs
 
 sub-ceil-div-2 : tie.Need-sub-ceil-div-2
 sub-ceil-div-2 c = omega (arith, c .before .before .before .before .before .before .pre .1 .room)
@@ -55,7 +61,9 @@ fixed-on-spec =
     push-requires-2
     add-ceil-div
     add-ceil-div-2
+    cast-ceil-div
     sub-ceil-div
+    cast-ceil-div-2
     sub-ceil-div-2
     ceil-div-requires
     returns)

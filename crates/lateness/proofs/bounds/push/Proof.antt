@@ -11,16 +11,19 @@ use Rattle.lateness.proofs.bounds.push.Tie as tie
 -- the product is what is asked for
 pushed : (c : tie.After-struct-known2) →
     let a = c .before .before .before .args in
-    a .mover .share * (c .before .before .at .result + a .mover .period) ≡ pushBy (a .reaches .now) (a .mover)
+    a .mover .share .0 * (c .before .before .at .result + a .mover .period .0) ≡ pushBy (a .reaches .now) (a .mover)
 pushed c =
     let m = c .before .before .before .args .mover in
-    ap (λ (r : ℕ). m .share * (r + m .period)) (c .before .before .at .ensures)
+    ap (λ (r : ℕ). m .share .0 * (r + m .period .0)) (c .before .before .at .ensures)
 
 at-requires : tie.Need-at-requires
 at-requires c κs = search needs
 
+cast-result : tie.Need-cast-result
+cast-result c = search needs
+
 add-result : tie.Need-add-result
-add-result c = omega (arith, c .before .at .ensures)
+add-result c = omega (arith, c .before .before .at .ensures)
 
 mul-result : tie.Need-mul-result
 mul-result c =
@@ -31,4 +34,4 @@ returns : tie.Need-returns
 returns c = pushed c
 
 pub push-spec : {M : Type 1} → statement M
-push-spec = tie.close (tie.spec at-requires add-result mul-result returns)
+push-spec = tie.close (tie.spec at-requires cast-result add-result mul-result returns)

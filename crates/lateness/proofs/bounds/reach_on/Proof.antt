@@ -20,6 +20,9 @@ push-requires c κs = search needs
 add-ceil-div : tie.Need-add-ceil-div
 add-ceil-div c = omega (arith, c .push .ensures, work-le (c .before .before .before .pre .1))
 
+cast-ceil-div : tie.Need-cast-ceil-div
+cast-ceil-div c = search needs
+
 sub-ceil-div : tie.Need-sub-ceil-div
 sub-ceil-div c = omega (arith, c .before .before .before .before .pre .1 .room)
 
@@ -38,6 +41,7 @@ reach-on-spec =
     mul-own-2
     push-requires
     add-ceil-div
+    cast-ceil-div
     sub-ceil-div
     ceil-div-requires
     returns)
