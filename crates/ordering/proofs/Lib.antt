@@ -1,4 +1,5 @@
 pub mod Place
 pub mod Picks
 pub mod Stored
-pub mod Counted
+pub mod Heavier
+pub mod Alike
