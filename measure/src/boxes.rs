@@ -31,7 +31,9 @@ pub fn full() -> Bench {
 /// So many tasks on so many cores: for two cores three tasks of about 11/20, light ones for the rest, and one for what is left.
 pub fn sized(tasks: u64, cores: u64) -> Bench {
     let mut chance = Chance(3);
-    let periods: Vec<u64> = (5_000..COMMON).filter(|t| COMMON % t == 0).collect();
+    let periods: Vec<u64> = (5_000..COMMON)
+        .filter(|t| COMMON.is_multiple_of(*t))
+        .collect();
     let heavy = cores * 3 / 2;
     let mut left = cores * COMMON;
     let mut pairs = Vec::new();
