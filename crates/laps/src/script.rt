@@ -97,12 +97,13 @@ fn few(count: usize) -> usize
     if count < CALLS { count } else { CALLS }
 }
 
-// All calls of a script.
+// All calls of a script. Of the choices the last alone goes into the sum: a match on each would copy the record once more.
 pub fn lap_all(first: Record, script: Script) -> Answered {
     let steps = script.steps;
     let count = few(script.count);
     let mut held = first;
     let mut sum: u64 = 0;
+    let mut last = Choice::Idle;
     let mut k: usize = 0;
     while k < count {
         let step = steps[k];
@@ -125,13 +126,14 @@ pub fn lap_all(first: Record, script: Script) -> Answered {
             let answer = held.look(step.number, time);
             held = answer.next;
             let choice = answer.choice;
-            sum = add(sum, add(answer.refusal as u64, chosen(choice)));
+            last = choice;
+            sum = add(sum, answer.refusal as u64);
         }
         k += 1;
     }
     Answered {
         next: held,
-        sum: sum,
+        sum: add(sum, chosen(last)),
     }
 }
 

@@ -5,10 +5,10 @@ use Rattle.laps.proofs.script.lap_all.Statement.{statement}
 use Rattle.laps.proofs.script.lap_all.Tie as tie
 
 abbrev Inv-loop : tie.InvT-loop
-Inv-loop steps count held₀ sum₀ k₀ held sum k = (k ≤ count) × (count ≤ 2048)
+Inv-loop steps count held₀ sum₀ last₀ k₀ held sum last k = (k ≤ count) × (count ≤ 2048)
 
 abbrev μ-loop : tie.MeasureT-loop
-μ-loop steps count held₀ sum₀ k₀ held sum k = count - k
+μ-loop steps count held₀ sum₀ last₀ k₀ held sum last k = count - k
 
 few-requires : tie.Need-few-requires Inv-loop μ-loop
 few-requires c κs = search needs
@@ -58,14 +58,8 @@ look-requires c κs = search needs
 cast-add-4 : tie.Need-cast-add-4 Inv-loop μ-loop
 cast-add-4 c = search needs
 
-chosen-requires : tie.Need-chosen-requires Inv-loop μ-loop
-chosen-requires c κs = search needs
-
 add-requires-6 : tie.Need-add-requires-6 Inv-loop μ-loop
 add-requires-6 c κs = search needs
-
-add-requires-7 : tie.Need-add-requires-7 Inv-loop μ-loop
-add-requires-7 c κs = search needs
 
 add-k : tie.Need-add-k Inv-loop μ-loop
 add-k c = search needs
@@ -75,6 +69,12 @@ loop-less c = search needs
 
 loop-again : tie.Need-loop-again Inv-loop μ-loop
 loop-again c = search needs
+
+chosen-requires : tie.Need-chosen-requires Inv-loop μ-loop
+chosen-requires c κs = search needs
+
+add-requires-7 : tie.Need-add-requires-7 Inv-loop μ-loop
+add-requires-7 c κs = search needs
 
 returns : tie.Need-returns Inv-loop μ-loop
 returns c = search needs
@@ -101,10 +101,10 @@ lap-all-spec =
     add-requires-5
     look-requires
     cast-add-4
-    chosen-requires
     add-requires-6
-    add-requires-7
     add-k
     loop-less
     loop-again
+    chosen-requires
+    add-requires-7
     returns)
