@@ -60,6 +60,27 @@ enum Class {
 }
 
 impl Record {
+    /// Every number, those of the box and the tasks in front first.
+    pub fn numbers(&mut self) -> Vec<&mut u64> {
+        let mut all = vec![
+            &mut self.cores,
+            &mut self.count,
+            &mut self.common,
+            &mut self.clock,
+        ];
+        for (task, state) in self.tasks.iter_mut().zip(&mut self.states) {
+            all.extend([&mut task.cost, &mut task.period, &mut task.weight]);
+            all.extend(&mut task.shares);
+            all.extend(&mut state.counts);
+            all.extend([&mut state.place, &mut state.last, &mut state.had]);
+            for run in &mut state.runs {
+                all.extend([&mut run.core, &mut run.deadline]);
+            }
+            all.push(&mut state.unfinished);
+        }
+        all
+    }
+
     /// The record with every number 0, which is unsound.
     pub fn empty() -> Self {
         Record {

@@ -3,7 +3,7 @@
 
 mod common;
 
-use common::{numbers, table, Random};
+use common::{table, Random};
 use second::limits::CLOCK;
 use second::record::Record;
 use second::task::Task;
@@ -17,7 +17,7 @@ fn wide(number: u64) -> u128 {
 fn rest_is_zero(record: &Record) -> bool {
     let mut copy = record.clone();
     let used = 4 + record.count as usize * 55;
-    let slots = numbers(&mut copy).into_iter().skip(used);
+    let slots = copy.numbers().into_iter().skip(used);
     let states = &record.states[..record.count as usize];
     slots.into_iter().all(|number| *number == 0)
         && states.iter().all(|state| {
@@ -123,7 +123,7 @@ fn changed(random: &mut Random) -> Record {
     }
     let used = 4 + record.count * 55;
     for _ in 0..random.below(3) {
-        let mut all = numbers(&mut record);
+        let mut all = record.numbers();
         let number = &mut *all[random.below(used) as usize];
         *number = match random.below(4) {
             0 => number.wrapping_add(1),

@@ -3,7 +3,7 @@
 
 mod common;
 
-use common::{numbers, Random};
+use common::Random;
 use second::limits::{CLOCK, TASKS};
 use second::listing::listing;
 use second::plan::Plan;
@@ -266,11 +266,11 @@ fn any_numbers() {
     ];
     let mut random = Random(3);
     let mut record = used();
-    let places = numbers(&mut record).len() as u64;
+    let places = record.numbers().len() as u64;
     let mut sound = 0;
     for round in 0..3 * places {
         let mut record = used();
-        let mut all = numbers(&mut record);
+        let mut all = record.numbers();
         *all[(round % places) as usize] = *random.pick(&values);
         if random.below(2) == 0 {
             // Numbers in use are few, so a second one is taken from the front.

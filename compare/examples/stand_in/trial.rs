@@ -1,13 +1,12 @@
 //! What the program `trial` should answer to a record and its questions.
 
 use crate::input::Input;
-use compare::trial::numbers::numbers;
 use second::record::{Choice, Record};
 
 pub fn answers(input: &[u8]) -> Vec<u8> {
     let mut input = Input(input);
     let mut record = Record::empty();
-    for number in numbers(&mut record) {
+    for number in record.numbers() {
         *number = input.number(8);
     }
     let mut answers = String::new();
@@ -21,7 +20,7 @@ fn question(input: &mut Input, mut record: Record) -> String {
     let (call, index) = (input.number(4), input.number(4) as usize);
     let value = input.number(8);
     if index > 0 {
-        *numbers(&mut record)[index - 1] = value;
+        *record.numbers()[index - 1] = value;
     }
     let (number, time) = (input.number(8), input.number(8));
     let sound = u8::from(record.sound());
@@ -36,7 +35,7 @@ fn question(input: &mut Input, mut record: Record) -> String {
         Err(refusal) => (refusal, "0 0 0".to_string()),
     };
     let mut sum = 0;
-    for number in numbers(&mut record) {
+    for number in record.numbers() {
         sum = (sum * 1_000_003 + *number % 2_147_483_647) % 2_147_483_647;
     }
     format!("{sound} {refusal} {three} {sum}\n")

@@ -33,9 +33,17 @@ impl Room {
     }
 
     /// Adds a task of any cost, or one of at least half a core.
-    pub fn add_random(&mut self, random: &mut Random, period: u64, heavy: bool) {
+    fn add_random(&mut self, random: &mut Random, period: u64, heavy: bool) {
         let least = if heavy { period.div_ceil(2) } else { 1 };
         self.add(random.between(least, period), period);
+    }
+
+    /// Adds so many of them, with periods of a list.
+    pub fn add_some(&mut self, random: &mut Random, number: u64, periods: &[u64], heavy: bool) {
+        for _ in 0..number {
+            let period = random.pick(periods);
+            self.add_random(random, period, heavy);
+        }
     }
 
     /// The numbers, with one light task if none has been added.

@@ -14,10 +14,7 @@ pub fn table(random: &mut Random) -> Table {
     let mut room = Room::new(cores, common);
     let free = random.place(TASKS - cores as usize - 1);
     let heavy = random.one_in(2);
-    for _ in 0..free {
-        let period = random.pick(&periods);
-        room.add_random(random, period, heavy);
-    }
+    room.add_some(random, free as u64, &periods, heavy);
     while room.rest > 0 {
         room.add(common, common);
     }

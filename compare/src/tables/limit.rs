@@ -27,10 +27,8 @@ pub fn within(random: &mut Random) -> Table {
     let cores = random.between(1, 16);
     let mut room = Room::new(cores, common);
     let heavy = random.one_in(3);
-    for _ in 0..random.between(1, 64) {
-        let period = random.pick(&periods);
-        room.add_random(random, period, heavy);
-    }
+    let number = random.between(1, 64);
+    room.add_some(random, number, &periods, heavy);
     Table {
         cores: cores as u32,
         numbers: room.finish(),

@@ -12,10 +12,8 @@ pub fn table(random: &mut Random) -> Table {
     let heavy = random.one_in(2);
     // Some boxes are offered more than they hold.
     room.rest += random.pick(&[0, 0, 0, 1, common]);
-    for _ in 0..random.between(1, 64) {
-        let period = random.pick(&periods);
-        room.add_random(random, period, heavy);
-    }
+    let number = random.between(1, 64);
+    room.add_some(random, number, &periods, heavy);
     Table {
         cores: cores as u32,
         numbers: room.finish(),

@@ -1,7 +1,7 @@
 //! A row of shares or turn counts that lacks a part, so that one number more, on any core, brings its sum back.
 
 use super::field::{COUNTS, SHARES};
-use super::numbers::{numbers, BOX, TASK};
+use super::numbers::{BOX, TASK};
 use super::spoil::Spoilt;
 use crate::random::Random;
 use second::limits::CORES;
@@ -21,7 +21,7 @@ impl Lack {
         let counts = record.states[task].place > 0 && random.one_in(3);
         let field = if counts { COUNTS } else { SHARES };
         let row = BOX + task * TASK + field.start;
-        let mut all = numbers(record);
+        let mut all = record.numbers();
         let given: Vec<usize> = (row..row + CORES).filter(|&at| *all[at] > 0).collect();
         if given.is_empty() {
             return Lack { row, part: 1 };
@@ -36,7 +36,7 @@ impl Lack {
     /// The part given to any core.
     pub fn repaired(&self, random: &mut Random, record: &Record) -> Spoilt {
         let place = self.row + random.place(CORES);
-        let now = *numbers(&mut record.clone())[place];
+        let now = *record.clone().numbers()[place];
         Spoilt {
             index: place + 1,
             value: now + self.part,

@@ -28,7 +28,7 @@ pub fn batch(random: &mut Random) -> Batch {
     let questions = length(random, &record, lack.is_some());
     let case = |_| case(random, &record, lack);
     let cases = (0..questions).map(case).collect();
-    let head = numbers::numbers(&mut record);
+    let head = record.numbers();
     let head = head.iter().flat_map(|number| number.to_le_bytes());
     Batch {
         head: head.collect(),

@@ -1,7 +1,6 @@
 //! A question of `trial`: a number spoilt, then a call or none.
 
 use super::checksum::checksum;
-use super::numbers::numbers;
 use super::spoil::Spoilt;
 use super::values;
 use crate::calls::call::{Answer, Call, NAMES};
@@ -48,7 +47,7 @@ impl Question {
             Ok(answer) => (0, answer),
             Err(refusal) => (refusal, [0; 3]),
         };
-        let sum = checksum(numbers(&mut record).into_iter().map(|number| &*number));
+        let sum = checksum(record.numbers().into_iter().map(|number| &*number));
         let line = format!("{sound} {refusal} {a} {b} {c} {sum}\n");
         (line, refusal)
     }

@@ -1,7 +1,7 @@
 //! Which number of a record is spoilt, and to what.
 
 use super::field::{held, FIELDS};
-use super::numbers::{numbers, BOX, TASK};
+use super::numbers::{BOX, TASK};
 use super::values;
 use crate::random::Random;
 use second::limits::TASKS;
@@ -21,7 +21,7 @@ impl Spoilt {
             return Spoilt { index: 0, value };
         }
         let place = place(random, record.count as usize);
-        let now = *numbers(&mut record.clone())[place];
+        let now = *record.clone().numbers()[place];
         let value = held(place, values::spoilt(random, record, now));
         let index = place + 1;
         Spoilt { index, value }
@@ -31,7 +31,7 @@ impl Spoilt {
     pub fn of(&self, record: &Record) -> Record {
         let mut record = record.clone();
         if let Some(place) = self.index.checked_sub(1) {
-            *numbers(&mut record)[place] = self.value;
+            *record.numbers()[place] = self.value;
         }
         record
     }

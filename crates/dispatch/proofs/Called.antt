@@ -4,11 +4,11 @@ use mathlib.Core.Path.{_≡_}
 use native.Mathlib.Omega.{arith}
 use Rattle.units.specs.Limits.{tasksLimit, periodLimit, clockLimit}
 use Rattle.soundness.proofs.Facts.{period-small, weight-small, shares-sum}
-use Rattle.state.specs.Own.{releaseOwn, finishOwn}
+use Rattle.state.specs.Own.{releaseOwn}
 use Rattle.state.specs.Key.{deadlineOf}
 use Rattle.state.specs.Runs.{Releasable}
 use Rattle.state.proofs.Facts.{Facts, facts}
-use Rattle.state.proofs.Passed.{releasable, has-run}
+use Rattle.state.proofs.Passed.{releasable}
 use Rattle.dispatch.specs.declared.Record.{Record}
 use Rattle.dispatch.specs.Record.{lineAt, stateAt}
 use Rattle.dispatch.proofs.Held.{Held, held, task-below, state-sound, due-small}
@@ -39,9 +39,6 @@ module _ (r : Record) (i t : ℕ) (p : Passed r (r .plan .count) i t) where
       releasable (lineAt r (i - 1)) (stateAt r (i - 1)) t e state
       (weight-small (r .plan) (kept .plan) (i - 1) here) (shares-sum (r .plan) (kept .plan) (i - 1) here) (p .limit) period
 
-  -- a finish: there is a run, with a small deadline
-  pub can-finish : finishOwn (stateAt r (i - 1)) ≡ 0 → 0 < stateAt r (i - 1) .live
-  can-finish e = has-run (stateAt r (i - 1)) e
-
+  -- the deadline of its oldest run
   pub oldest-small : deadlineOf (stateAt r (i - 1)) ≤ clockLimit + periodLimit
   oldest-small = due-small r kept (i - 1) here

@@ -1,8 +1,6 @@
 //! Random numbers and tables for the tests.
 #![allow(dead_code)]
 
-use second::record::Record;
-
 /// A small generator of numbers that look random.
 pub struct Random(pub u64);
 
@@ -48,25 +46,4 @@ pub fn table(random: &mut Random, most_common: u64) -> (u32, Vec<u32>) {
         table.extend([1, common as u32]);
     }
     (cores as u32, table)
-}
-
-/// Every number of a record, those of the box and the tasks in front first.
-pub fn numbers(record: &mut Record) -> Vec<&mut u64> {
-    let mut all = vec![
-        &mut record.cores,
-        &mut record.count,
-        &mut record.common,
-        &mut record.clock,
-    ];
-    for (task, state) in record.tasks.iter_mut().zip(&mut record.states) {
-        all.extend([&mut task.cost, &mut task.period, &mut task.weight]);
-        all.extend(&mut task.shares);
-        all.extend(&mut state.counts);
-        all.extend([&mut state.place, &mut state.last, &mut state.had]);
-        for run in &mut state.runs {
-            all.extend([&mut run.core, &mut run.deadline]);
-        }
-        all.push(&mut state.unfinished);
-    }
-    all
 }

@@ -1,11 +1,12 @@
 use Rattle.dispatch.proofs.Passed.{Passed, task-passed}
-use Rattle.dispatch.proofs.Called.{below, can-finish, oldest-small}
+use Rattle.dispatch.proofs.Called.{below, oldest-small}
 use Rattle.dispatch.proofs.Numbers.{task-first, finish-first, finish-own, finish-refused, finish-taken}
 use Rattle.dispatch.specs.Record.{stateAt, moved}
 use Rattle.dispatch.specs.Refusals.{taskNo, finishNo}
 use Rattle.dispatch.specs.Finish.{takeFinish, refuseFinish}
 use Rattle.state.specs.declared.State.{State}
 use Rattle.state.specs.Key.{deadlineOf}
+use Rattle.state.proofs.Passed.{has-run}
 use Rattle.arith.proofs.Signed.{pos-fits, sub-fits, sub-is}
 use Rattle.units.specs.Limits.{clockLimit, periodLimit}
 use lib.IntN.{ℤ, subℕ}
@@ -65,8 +66,7 @@ sub-late c =
     sub-fits (s .time .0) (deadlineOf (stateAt (s .t1) (s .task - 1))) (omega (arith, known (c .before .before .before .before .before .before) .limit)) (omega (arith, small (c .before .before .before .before .before .before)))
 
 without-run-requires : tie.Need-without-run-requires
-without-run-requires c κs =
-    can-finish (c .before .before .before .before .before .before .before .before .before .before .args .t1) (c .before .before .before .before .before .before .before .before .before .before .args .task) (c .before .before .before .before .before .before .before .before .before .before .args .time .0) (known (c .before .before .before .before .before .before)) (sym (c .before .before .before .before .finish-own .ensures) ∙ c .before .before .before .if2 .taken)
+without-run-requires c κs = has-run (stateAt (c .before .before .before .before .before .before .before .before .before .before .args .t1) (c .before .before .before .before .before .before .before .before .before .before .args .task - 1)) (sym (c .before .before .before .before .finish-own .ensures) ∙ c .before .before .before .if2 .taken)
 
 mul-after : tie.Need-mul-after
 mul-after c = omega (arith, below (c .before .before .before .before .before .before .before .before .before .before .before .args .t1) (c .before .before .before .before .before .before .before .before .before .before .before .args .task) (c .before .before .before .before .before .before .before .before .before .before .before .args .time .0) (known (c .before .before .before .before .before .before .before)))
