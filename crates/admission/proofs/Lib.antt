@@ -5,3 +5,10 @@ pub mod First
 pub mod Kept
 pub mod Tasks
 pub mod Weighing
+pub mod InWords
+pub mod Applies
+pub mod Gives
+pub mod FirstThatApplies
+pub mod Exactly
+pub mod Padded
+pub mod TakenWeights

@@ -1,3 +1,5 @@
 pub mod Weight
 pub mod Refusals
 pub mod Admission
+pub mod Words
+pub mod Given

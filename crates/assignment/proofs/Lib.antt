@@ -4,3 +4,16 @@ pub mod Best
 pub mod Cutting
 pub mod Steps
 pub mod Ordered
+pub mod Words
+pub mod Loads
+pub mod CutKeeps
+pub mod Whole
+pub mod Passes
+pub mod Guard
+pub mod Picks
+pub mod Shape
+pub mod Scatter
+pub mod Placed
+pub mod Properties
+pub mod Guarded
+pub mod RowPassed

@@ -1,4 +1,6 @@
 // The two passes of assignment: which core has how much of which task.
+pub mod rows;
+
 use ordering::Order;
 use ordering::order_of;
 use units::limits::CORES;

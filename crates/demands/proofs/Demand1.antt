@@ -5,11 +5,11 @@ use mathlib.Core.List.{List}
 use Rattle.planning.specs.Plan.{planOf}
 use Rattle.dispatch.specs.declared.Record.{Record}
 use Rattle.dispatch.specs.Record.{recordOf}
-use Rattle.dispatched.specs.Shape.{Good}
-use Rattle.dispatched.specs.Calls.{Call, timeOf, refusalOf, step, after}
-use Rattle.dispatched.proofs.Always.{always-good, refused-same, accepted-clock, clock-rises, plan-same}
-use Rattle.dispatched.proofs.Never.{never-15}
-use Rattle.dispatched.proofs.Started.{started}
+use Rattle.dispatch.specs.Shape.{Good}
+use Rattle.dispatch.specs.Calls.{Call, timeOf, refusalOf, step, after}
+use Rattle.dispatch.proofs.Always.{always-good, refused-same, accepted-clock, clock-rises, plan-same}
+use Rattle.dispatch.proofs.Never.{never-15}
+use Rattle.dispatch.proofs.Started.{started}
 
 -- a refused call hands back the very record it was given, whatever the record
 pub refused-changes-nothing : (r : Record) (c : Call) → (refusalOf r c ≡ 0 → ⊥) → step r c ≡ r

@@ -13,16 +13,16 @@ use Rattle.lists.proofs.Tests.{by-cases}
 use Rattle.admission.specs.declared.refusals.Refusal.{Refusal}
 use Rattle.admission.specs.Refusals.{refusal, taken}
 use Rattle.admission.specs.Admission.{refusalOf}
-use Rattle.admitted.specs.Words.{CoresIn, TableIn, RangesIn, NoneOver, PeriodIn, AllFit, tasks, cost, period, commonOf, weightOf}
-use Rattle.admitted.specs.Given.{Given, none}
-use Rattle.admitted.proofs.Exactly.{exactly, exactly-taken}
-use Rattle.admitted.proofs.FirstThatApplies.{given}
-use Rattle.admitted.proofs.Weights.{common-multiple, common-smallest, weight-exact, weight-range}
+use Rattle.admission.specs.Words.{CoresIn, TableIn, RangesIn, NoneOver, PeriodIn, AllFit, tasks, cost, period, commonOf, weightOf}
+use Rattle.admission.specs.Given.{Given, none}
+use Rattle.admission.proofs.Exactly.{exactly, exactly-taken}
+use Rattle.admission.proofs.FirstThatApplies.{given}
+use Rattle.admission.proofs.TakenWeights.{common-multiple, common-smallest, weight-exact, weight-range}
 use Rattle.planning.specs.Plan.{planOf, refusedPlan, takenPlan}
 use Rattle.planning.specs.Kept.{PlanKept}
 use Rattle.lateness.specs.Lateness.{latesOf}
 use Rattle.lateness.proofs.Range.{late-range}
-use Rattle.planned.proofs.Taken.{plan-number, plan-kept}
+use Rattle.soundness.proofs.Taken.{plan-number, plan-kept}
 
 -- planning answers the first refusal that applies
 pub answers-first : (m : ℕ) (xs : List ℕ) → planOf m xs .refusal ≡ refusalOf m xs

@@ -4,11 +4,11 @@ use mathlib.Core.Path.{_≡_}
 use native.Mathlib.Omega.{arith}
 use Rattle.units.specs.Limits.{tasksLimit, periodLimit, clockLimit}
 use Rattle.soundness.proofs.Facts.{period-small, weight-small, shares-sum}
-use Rattle.state.specs.Own.{releaseOwn}
-use Rattle.state.specs.Key.{deadlineOf}
-use Rattle.state.specs.Runs.{Releasable}
-use Rattle.state.proofs.Facts.{Facts, facts}
-use Rattle.state.proofs.Passed.{releasable}
+use Rattle.task_state.specs.Own.{releaseOwn}
+use Rattle.task_state.specs.Key.{deadlineOf}
+use Rattle.task_state.specs.Runs.{Releasable}
+use Rattle.task_state.proofs.Facts.{Facts, facts}
+use Rattle.task_state.proofs.Passed.{releasable}
 use Rattle.dispatch.specs.declared.Record.{Record}
 use Rattle.dispatch.specs.Record.{lineAt, stateAt}
 use Rattle.dispatch.proofs.Held.{Held, held, task-below, state-sound, due-small}

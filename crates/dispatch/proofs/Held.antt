@@ -12,10 +12,10 @@ use Rattle.lists.proofs.Tests.{by-cases, and-left, and-right, and-true}
 use Rattle.lists.proofs.Below.{all-at, all-from}
 use Rattle.soundness.specs.Plan.{planSound}
 use Rattle.soundness.proofs.Facts.{tasks-few, period-small}
-use Rattle.state.specs.State.{runAt}
-use Rattle.state.specs.Sound.{stateSound, runsEmpty, stateEmpty}
-use Rattle.state.specs.Key.{deadlineOf, waits}
-use Rattle.state.proofs.Facts.{facts, oldest-due}
+use Rattle.task_state.specs.State.{runAt}
+use Rattle.task_state.specs.Sound.{stateSound, runsEmpty, stateEmpty}
+use Rattle.task_state.specs.Key.{deadlineOf, waits}
+use Rattle.task_state.proofs.Facts.{facts, oldest-due}
 use Rattle.dispatch.specs.declared.Record.{Record}
 use Rattle.dispatch.specs.Record.{lineAt, stateAt}
 use Rattle.dispatch.specs.Sound.{clockIn, stateOk, soundOf}

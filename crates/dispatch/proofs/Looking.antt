@@ -9,8 +9,8 @@ use borrow.Author.Tests.{eq-eqb}
 use Rattle.units.specs.Limits.{tasksLimit}
 use Rattle.lists.proofs.Tests.{by-cases}
 use Rattle.planning.specs.declared.Line.{Line}
-use Rattle.state.specs.declared.State.{State}
-use Rattle.state.specs.Key.{deadlineOf, waits, keyOf}
+use Rattle.task_state.specs.declared.State.{State}
+use Rattle.task_state.specs.Key.{deadlineOf, waits, keyOf}
 use Rattle.dispatch.specs.declared.Record.{Record}
 use Rattle.dispatch.specs.declared.look.Best.{Best}
 use Rattle.dispatch.specs.declared.look.Choice.{Choice}

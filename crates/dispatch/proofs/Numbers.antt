@@ -4,7 +4,7 @@ use mathlib.Core.Path.{_≡_, sym, ap, _∙_}
 use mathlib.Core.Bool.{Bool}
 use lib.Dec.{eqb}
 use borrow.Author.Tests.{eq-eqb, ne-eqb}
-use Rattle.state.specs.Own.{releaseOwn, finishOwn}
+use Rattle.task_state.specs.Own.{releaseOwn, finishOwn}
 use Rattle.dispatch.specs.declared.Record.{Record}
 use Rattle.dispatch.specs.declared.look.Choice.the-variants.{Idle}
 use Rattle.dispatch.specs.Record.{lineAt, stateAt}

@@ -7,7 +7,7 @@ use lib.Dec.{ltb, eqb}
 use borrow.Author.Tests.{ltb-false, eqb-true, eqb-false, not-false}
 use Rattle.units.specs.Limits.{clockLimit}
 use Rattle.lists.proofs.Tests.{by-cases, or-false-left, or-false-right}
-use Rattle.state.specs.Own.{releaseOwn, finishOwn}
+use Rattle.task_state.specs.Own.{releaseOwn, finishOwn}
 use Rattle.dispatch.specs.declared.Record.{Record}
 use Rattle.dispatch.specs.Record.{lineAt, stateAt}
 use Rattle.dispatch.specs.Sound.{soundOf}

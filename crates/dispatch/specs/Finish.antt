@@ -3,8 +3,8 @@ use Prim.Native.Nat.{ℕ, _-_}
 use mathlib.Core.Bool.{cond}
 use lib.Dec.{eqb}
 use lib.IntN.{pos, subℕ}
-use Rattle.state.specs.State.{runAt}
-use Rattle.state.specs.Runs.{withoutRun}
+use Rattle.task_state.specs.State.{runAt}
+use Rattle.task_state.specs.Runs.{withoutRun}
 use Rattle.dispatch.specs.declared.Record.{Record}
 use Rattle.dispatch.specs.declared.finish.Finished.{Finished}
 use Rattle.dispatch.specs.Record.{stateAt, moved}

@@ -4,3 +4,6 @@ pub mod Refusals
 pub mod Release
 pub mod Finish
 pub mod Look
+pub mod Shape
+pub mod Calls
+pub mod Choice

@@ -5,8 +5,8 @@ use lib.Dec.{ltb, eqb}
 use Rattle.units.specs.Limits.{tasksLimit}
 use Rattle.units.specs.Units.{ticks}
 use Rattle.planning.specs.declared.Line.{Line}
-use Rattle.state.specs.declared.State.{State}
-use Rattle.state.specs.Key.{deadlineOf, waits, keyOf}
+use Rattle.task_state.specs.declared.State.{State}
+use Rattle.task_state.specs.Key.{deadlineOf, waits, keyOf}
 use Rattle.dispatch.specs.declared.Record.{Record}
 use Rattle.dispatch.specs.declared.look.Side.the-variants.{Upper, Lower}
 use Rattle.dispatch.specs.declared.look.Choice.{Choice}

@@ -7,8 +7,8 @@ use Rattle.units.specs.Units.{ticks}
 use Rattle.planning.specs.declared.Line.{Line}
 use Rattle.planning.specs.declared.Plan.{Plan}
 use Rattle.planning.specs.Plan.{noLine, planOf}
-use Rattle.state.specs.declared.State.{State}
-use Rattle.state.specs.State.{freshState, noState}
+use Rattle.task_state.specs.declared.State.{State}
+use Rattle.task_state.specs.State.{freshState, noState}
 use Rattle.dispatch.specs.declared.Record.{Record}
 use Rattle.dispatch.specs.declared.plan.Fresh.{Fresh}
 

@@ -3,7 +3,7 @@ use Prim.Native.Nat.{ℕ, _-_}
 use mathlib.Core.Bool.{Bool, cond, not, _||_}
 use lib.Dec.{ltb, eqb}
 use Rattle.units.specs.Limits.{clockLimit}
-use Rattle.state.specs.Own.{releaseOwn, finishOwn}
+use Rattle.task_state.specs.Own.{releaseOwn, finishOwn}
 use Rattle.dispatch.specs.declared.Record.{Record}
 use Rattle.dispatch.specs.Record.{lineAt, stateAt}
 use Rattle.dispatch.specs.Sound.{soundOf}

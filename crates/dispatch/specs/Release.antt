@@ -3,7 +3,7 @@ use Prim.Native.Nat.{ℕ, _+_, _-_}
 use mathlib.Core.Bool.{cond}
 use lib.Dec.{eqb}
 use Rattle.units.specs.Units.{ticks}
-use Rattle.state.specs.Runs.{turnAt, withRun}
+use Rattle.task_state.specs.Runs.{turnAt, withRun}
 use Rattle.dispatch.specs.declared.Record.{Record}
 use Rattle.dispatch.specs.declared.release.Released.{Released}
 use Rattle.dispatch.specs.Record.{lineAt, stateAt, moved}

@@ -9,9 +9,9 @@ use Rattle.lists.specs.Below.{allBelow}
 use Rattle.planning.specs.declared.Plan.{Plan}
 use Rattle.planning.specs.Plan.{noLine}
 use Rattle.soundness.specs.Plan.{planSound}
-use Rattle.state.specs.declared.State.{State}
-use Rattle.state.specs.State.{noState}
-use Rattle.state.specs.Sound.{stateSound, stateEmpty}
+use Rattle.task_state.specs.declared.State.{State}
+use Rattle.task_state.specs.State.{noState}
+use Rattle.task_state.specs.Sound.{stateSound, stateEmpty}
 use Rattle.dispatch.specs.declared.Record.{Record}
 
 -- task i is in use and sound, or past the N tasks and empty

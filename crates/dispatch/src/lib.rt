@@ -7,7 +7,7 @@ pub mod release;
 pub mod sound;
 
 use planning::Plan;
-use state::State;
+use task_state::State;
 use units::limits::TASKS;
 use units::ticks::Ticks;
 

@@ -2,14 +2,14 @@
 use crate::Record;
 use crate::refusals::first_no;
 use planning::Line;
-use state::State;
+use task_state::State;
 use units::limits::TASKS;
 use units::ticks::Ticks;
 ghost use mathlib.Core.Path.{_≡_};
 ghost use mathlib.Core.Bool.{true};
 ghost use Prim.Native.Nat.{_+_, _<_, _≤_};
 ghost use Rattle.units.specs.Limits.{coresLimit, periodLimit, clockLimit};
-ghost use Rattle.state.specs.Key.{deadlineOf, waits};
+ghost use Rattle.task_state.specs.Key.{deadlineOf, waits};
 ghost use Rattle.dispatch.specs.Look.{better as betterOf, choiceBy, lookOf};
 
 // Where a mover stands on a core: lower on its first core, upper on any other.

@@ -3,7 +3,7 @@ use crate::Record;
 use admission::refusals::Refusal;
 use planning::Plan;
 use planning::plan_of;
-use state::State;
+use task_state::State;
 use units::limits::TASKS;
 use units::ticks::Ticks;
 ghost use mathlib.Core.Path.{_≡_};

@@ -2,7 +2,7 @@
 use crate::Record;
 use planning::Plan;
 use soundness::plan::plan_sound;
-use state::State;
+use task_state::State;
 use units::limits::CLOCK;
 use units::limits::TASKS;
 ghost use mathlib.Core.Path.{_≡_};

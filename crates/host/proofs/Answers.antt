@@ -14,8 +14,8 @@ use Rattle.admission.proofs.Answers.{says-refusal}
 use Rattle.planning.specs.declared.Plan.{Plan}
 use Rattle.planning.specs.declared.Planned.{Planned}
 use Rattle.planning.specs.Plan.{planOf}
-use Rattle.planned.proofs.Taken.{plan-number}
-use Rattle.planned.proofs.Sound.{plan-sound}
+use Rattle.soundness.proofs.Taken.{plan-number}
+use Rattle.soundness.proofs.PlannedSound.{plan-sound}
 use Rattle.soundness.specs.Plan.{planSound}
 use Rattle.listing.specs.declared.listed.Listed.{Listed}
 use Rattle.listing.specs.Listed.{planListed, planAfter}

@@ -13,7 +13,7 @@ use borrow.Author.Tests.{eqb-true, ltb-true, ltb-false}
 use Rattle.units.specs.Limits.{tasksLimit}
 use Rattle.lists.specs.Lists.{zeros}
 use Rattle.lists.proofs.Tests.{by-cases, or-false-right}
-use Rattle.admitted.specs.Words.{TableOut}
+use Rattle.admission.specs.Words.{TableOut}
 use Rattle.host.specs.Host.{numbersOf, tableIn}
 use Rattle.host.specs.Table.{filled, heldOf, tableOf}
 use Rattle.host.specs.declared.bytes.Table.{Table}

@@ -10,9 +10,9 @@ use borrow.Author.Tests.{eqb-true, eqb-false, ltb-true, ltb-false}
 use Rattle.units.specs.Limits.{coresLimit}
 use Rattle.lists.proofs.Tests.{by-cases}
 use Rattle.admission.specs.Admission.{refusalOf}
-use Rattle.admitted.specs.Words.{CoresIn, CoresOut, TableOut}
-use Rattle.admitted.specs.Given.{one, two}
-use Rattle.admitted.proofs.Gives.{gives-no}
+use Rattle.admission.specs.Words.{CoresIn, CoresOut, TableOut}
+use Rattle.admission.specs.Given.{one, two}
+use Rattle.admission.proofs.Gives.{gives-no}
 
 -- refusal 1 where the core count is 0 or above 16, else 2
 abbrev pub OneOrTwo : ℕ → ℕ → Type 0

@@ -8,9 +8,9 @@ use lib.ListN.{length}
 use Rattle.lists.proofs.Tests.{by-cases}
 use Rattle.admission.specs.Admission.{refusalOf}
 use Rattle.planning.specs.Plan.{planOf}
-use Rattle.planned.proofs.Taken.{plan-number}
-use Rattle.planned.proofs.Sound.{plan-sound}
-use Rattle.dispatched.proofs.Started.{started-plan}
+use Rattle.soundness.proofs.Taken.{plan-number}
+use Rattle.soundness.proofs.PlannedSound.{plan-sound}
+use Rattle.dispatch.proofs.Started.{started-plan}
 use Rattle.listing.specs.declared.listed.Listed.{Listed}
 use Rattle.listing.specs.Listing.{listingText}
 use Rattle.listing.specs.Listed.{planListed}

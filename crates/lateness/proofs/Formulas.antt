@@ -15,8 +15,8 @@ use Rattle.lists.specs.Lists.{parts, seek}
 use Rattle.lists.specs.Rows.{count}
 use Rattle.lists.proofs.Tests.{by-cases}
 use Rattle.assignment.specs.Movers.{moves, firstCore, upper, lower}
-use Rattle.placed.proofs.Words.{upper-first}
-use Rattle.placed.proofs.Properties.{lower-found}
+use Rattle.assignment.proofs.Words.{upper-first}
+use Rattle.assignment.proofs.Properties.{lower-found}
 use Rattle.planning.specs.declared.Line.{Line}
 use Rattle.planning.specs.declared.Plan.{Plan}
 use Rattle.planning.specs.Plan.{emptyLine, noLine, rowOf, tableOf}

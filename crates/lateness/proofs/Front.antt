@@ -17,7 +17,7 @@ use Rattle.lists.proofs.Tests.{by-cases}
 use Rattle.lists.proofs.Lists.{parts-le}
 use Rattle.lists.proofs.Parts.{first-has}
 use Rattle.assignment.specs.Movers.{movesOn, firstCore, upper, lower}
-use Rattle.placed.proofs.Properties.{share-core}
+use Rattle.assignment.proofs.Properties.{share-core}
 use Rattle.planning.specs.declared.Line.{Line}
 use Rattle.planning.specs.declared.Plan.{Plan}
 use Rattle.planning.specs.Plan.{noLine, rowOf}

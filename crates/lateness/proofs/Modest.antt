@@ -9,7 +9,7 @@ use Rattle.lists.specs.Lists.{most}
 use Rattle.lists.proofs.Lists.{most-ge}
 use Rattle.arith.specs.Ceiling.{ceilDiv}
 use Rattle.assignment.specs.Movers.{firstCore, upper, lower}
-use Rattle.placed.proofs.Properties.{halves, one-upper, one-lower, no-mover}
+use Rattle.assignment.proofs.Properties.{halves, one-upper, one-lower, no-mover}
 use Rattle.planning.specs.declared.Line.{Line}
 use Rattle.planning.specs.declared.Plan.{Plan}
 use Rattle.planning.specs.Plan.{emptyLine, rowOf}

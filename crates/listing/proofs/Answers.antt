@@ -6,8 +6,8 @@ use mathlib.Core.List.{List}
 use native.Mathlib.Omega.{arith}
 use lib.ListN.{length}
 use borrow.Author.Tests.{le-leb, lt-leb}
-use Rattle.decimal.specs.Wrote.{Wrote}
-use Rattle.decimal.proofs.Wrote.{whole}
+use Rattle.writing.specs.Wrote.{Wrote}
+use Rattle.writing.proofs.Wrote.{whole}
 use Rattle.planning.specs.declared.Plan.{Plan}
 use Rattle.dispatch.specs.declared.Record.{Record}
 use Rattle.dispatch.specs.Sound.{soundOf}

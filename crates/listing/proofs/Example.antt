@@ -1,8 +1,8 @@
 -- Document 01's listing: M = 4 and tasks 5 6, 4 6, 2 3, 2 3, 2 3, 1 2.
 use mathlib.Core.Path.{_≡_, refl}
 use mathlib.Core.List.{[], _∷_, _++_}
-use Rattle.decimal.specs.Ascii.{ascii}
-use Rattle.decimal.specs.Decimal.{decimalF, decimalOf, signedOf}
+use Rattle.writing.specs.Ascii.{ascii}
+use Rattle.writing.specs.Decimal.{decimalF, decimalOf, signedOf}
 use Rattle.planning.specs.declared.Plan.{Plan}
 use Rattle.arith.specs.Divisor.{euclid, gcd, lcm}
 use Rattle.arith.specs.Period.{common, periodOf}

@@ -13,9 +13,9 @@ use Rattle.units.specs.Limits.{coresLimit, tasksLimit, periodLimit, commonLimit
 use Rattle.units.proofs.Units.{nums-long}
 use Rattle.lists.specs.Lists.{sum}
 use Rattle.lists.proofs.Tests.{by-cases}
-use Rattle.decimal.specs.Ascii.{ascii}
-use Rattle.decimal.specs.Decimal.{decimalOf, signedOf}
-use Rattle.decimal.proofs.Decimal.{decimal-length}
+use Rattle.writing.specs.Ascii.{ascii}
+use Rattle.writing.specs.Decimal.{decimalOf, signedOf}
+use Rattle.writing.proofs.Decimal.{decimal-length}
 use Rattle.assignment.specs.Movers.{moves}
 use Rattle.planning.specs.declared.Line.{Line}
 use Rattle.planning.specs.declared.Plan.{Plan}
@@ -26,11 +26,11 @@ use Rattle.lateness.proofs.Range.{late-range}
 use Rattle.soundness.specs.Plan.{planSound}
 use Rattle.soundness.proofs.Facts.{tasks-few, weight-small, shares-sum}
 use Rattle.dispatch.specs.declared.Record.{Record}
-use Rattle.dispatched.specs.Shape.{PlanShaped, Good}
-use Rattle.dispatched.proofs.Plans.{sound-kept}
+use Rattle.dispatch.specs.Shape.{PlanShaped, Good}
+use Rattle.dispatch.proofs.Plans.{sound-kept}
 use Rattle.dispatch.proofs.Held.{held}
 use Rattle.listing.specs.Listed.{planListed, listedOf}
-use Rattle.decimal.specs.Field.{field, lineEnd}
+use Rattle.writing.specs.Field.{field, lineEnd}
 use Rattle.listing.specs.Listing.{shareText, sharesText, headText, rowText, lateText, taskText, tasksText, listingText}
 
 -- a share of at most 1,000,000 on one of sixteen cores

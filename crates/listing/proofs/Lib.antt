@@ -3,3 +3,7 @@ pub mod Wide
 pub mod Answers
 pub mod Example
 pub mod Fits
+pub mod Digits
+pub mod Shares
+pub mod Line
+pub mod Listing

@@ -16,10 +16,10 @@ use Rattle.units.proofs.Units.{nums-at}
 use Rattle.lists.specs.Lists.{parts, bit}
 use Rattle.lists.proofs.Tests.{by-cases}
 use Rattle.lists.proofs.Lists.{parts-cons, parts-len}
-use Rattle.decimal.specs.Ascii.{ascii}
+use Rattle.writing.specs.Ascii.{ascii}
 use Rattle.planning.specs.declared.Line.{Line}
 use Rattle.planning.specs.Plan.{noLine}
-use Rattle.decimal.specs.Field.{field}
+use Rattle.writing.specs.Field.{field}
 use Rattle.listing.specs.Listing.{shareText, sharesText, rowText, taskText, tasksText}
 
 -- no share, no text

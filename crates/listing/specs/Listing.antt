@@ -5,9 +5,9 @@ use mathlib.Core.List.{List, [], _∷_, _++_}
 use lib.Dec.{eqb}
 use lib.IntN.{ℤ, pos}
 use lib.ListN.{getD}
-use Rattle.decimal.specs.Ascii.{ascii}
-use Rattle.decimal.specs.Decimal.{signedOf}
-use Rattle.decimal.specs.Field.{field, lineEnd}
+use Rattle.writing.specs.Ascii.{ascii}
+use Rattle.writing.specs.Decimal.{signedOf}
+use Rattle.writing.specs.Field.{field, lineEnd}
 use Rattle.assignment.specs.Movers.{moves}
 use Rattle.planning.specs.declared.Line.{Line}
 use Rattle.planning.specs.declared.Plan.{Plan}

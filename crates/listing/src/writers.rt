@@ -1,14 +1,14 @@
 // Writers of the listing's pieces. Each stores as much as fits and answers the index after its text.
-use decimal::put_byte;
-use decimal::put_field;
-use decimal::put_signed;
-use decimal::put_text;
+use assignment::rows::parts_of;
 use planning::Line;
 use planning::Plan;
-use rows::parts_of;
 use units::limits::CORES;
 use units::limits::TASKS;
 use units::share::Share;
+use writing::put_byte;
+use writing::put_field;
+use writing::put_signed;
+use writing::put_text;
 ghost use mathlib.Core.Path.{_≡_};
 ghost use mathlib.Core.Bool.{cond};
 ghost use mathlib.Core.List.{_++_};
@@ -16,8 +16,8 @@ ghost use Prim.Native.Nat.{_+_, _*_, _≤_};
 ghost use Rattle.units.specs.Limits.{tasksLimit};
 ghost use Rattle.units.specs.Units.{nums};
 ghost use Rattle.lists.specs.Lists.{parts as partsOf};
-ghost use Rattle.decimal.specs.Limits.{placeLimit};
-ghost use Rattle.decimal.specs.Wrote.{Wrote};
+ghost use Rattle.writing.specs.Limits.{placeLimit};
+ghost use Rattle.writing.specs.Wrote.{Wrote};
 ghost use Rattle.lateness.specs.Lateness.{latesOf};
 ghost use Rattle.listing.specs.Listing.{shareText, sharesText, headText, rowText, lateText, taskText, tasksText, listingText};
 

@@ -1,6 +1,6 @@
 // The program: a table's text on standard input, its listing or refusal on standard output.
-use program::ANSWER;
-use program::answer;
+use plan_answer::ANSWER;
+use plan_answer::answer;
 use streams::Input;
 use streams::read_input;
 use streams::write_output;

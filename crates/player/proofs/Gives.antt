@@ -6,11 +6,11 @@ use native.Mathlib.Nat.{sub-zero}
 use native.Mathlib.Omega.{arith}
 use borrow.Author.Tests.{lt-ltb, le-ltb, ne-eqb}
 use lib.ListN.{length, take, length-take}
-use Rattle.reading.specs.Text.{Said, says, unreadable, textOf}
+use Rattle.table_text.specs.Text.{Said, says, unreadable, textOf}
 use Rattle.dispatch.specs.declared.plan.Fresh.{Fresh}
 use Rattle.dispatch.specs.Record.{freshOf}
-use Rattle.program.specs.Program.{refusalText, unreadableText}
-use Rattle.input.specs.Input.{inputLimit, plays, badCall, callsPlace, afterCalls, afterTable, inputOf}
+use Rattle.plan_answer.specs.Program.{refusalText, unreadableText}
+use Rattle.calls_text.specs.Input.{inputLimit, plays, badCall, callsPlace, afterCalls, afterTable, inputOf}
 use Rattle.player.specs.Played.{answersText, freshText, givenText, playText}
 use Rattle.player.proofs.Plays.{callsAt}
 

@@ -7,8 +7,8 @@ use borrow.Author.Tests.{lt-ltb, le-ltb, ltb-true, ltb-false}
 use lib.Dec.{ltb}
 use lib.ListN.{length}
 use Rattle.lists.proofs.Tests.{by-cases}
-use Rattle.decimal.specs.Wrote.{Wrote}
-use Rattle.decimal.proofs.Wrote.{none, then, recast}
+use Rattle.writing.specs.Wrote.{Wrote}
+use Rattle.writing.proofs.Wrote.{none, then, recast}
 use Rattle.dispatch.specs.declared.Record.{Record}
 use Rattle.dispatch.specs.declared.release.Released.{Released}
 use Rattle.dispatch.specs.declared.finish.Finished.{Finished}
@@ -16,14 +16,14 @@ use Rattle.dispatch.specs.declared.look.Looked.{Looked}
 use Rattle.dispatch.specs.Release.{releaseOf}
 use Rattle.dispatch.specs.Finish.{finishOf}
 use Rattle.dispatch.specs.Look.{lookOf}
-use Rattle.dispatched.specs.Calls.{Call, release, finish, look, step, after}
-use Rattle.input.specs.Line.{callLine, lineAfter}
-use Rattle.input.specs.Input.{inputLimit, thenCalls, callIn, callsFrom}
+use Rattle.dispatch.specs.Calls.{Call, release, finish, look, step, after}
+use Rattle.calls_text.specs.Line.{callLine, lineAfter}
+use Rattle.calls_text.specs.Input.{inputLimit, thenCalls, callIn, callsFrom}
 use Rattle.player.specs.Answers.{releasedText, finishedText, lookedText, answerText}
 use Rattle.player.specs.Played.{answersText}
-use Rattle.input.specs.declared.line.CallLine.{CallLine}
-use Rattle.input.specs.declared.line.CallLine.the-variants.{Release, Finish, Look, NoCall}
-use Rattle.input.proofs.Lines.{Reach, call-reach, from-start, ahead}
+use Rattle.calls_text.specs.declared.line.CallLine.{CallLine}
+use Rattle.calls_text.specs.declared.line.CallLine.the-variants.{Release, Finish, Look, NoCall}
+use Rattle.calls_text.proofs.Lines.{Reach, call-reach, from-start, ahead}
 
 module _ (r : Record) (i t : ℕ) where
   -- a release's answer

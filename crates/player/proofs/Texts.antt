@@ -4,9 +4,9 @@ use mathlib.Core.Path.{_≡_, refl}
 use mathlib.Core.List.{List, _++_}
 use borrow.Author.Tests.{ne-eqb}
 use lib.IntN.{ℤ}
-use Rattle.decimal.specs.Ascii.{ascii}
-use Rattle.decimal.specs.Decimal.{signedOf}
-use Rattle.decimal.specs.Field.{field, lineEnd}
+use Rattle.writing.specs.Ascii.{ascii}
+use Rattle.writing.specs.Decimal.{signedOf}
+use Rattle.writing.specs.Field.{field, lineEnd}
 use Rattle.dispatch.specs.declared.look.Side.{Side}
 use Rattle.dispatch.specs.declared.look.Side.the-variants.{Upper, Lower}
 use Rattle.dispatch.specs.declared.look.Choice.{Choice}

@@ -5,9 +5,9 @@ use mathlib.Core.Bool.{cond}
 use mathlib.Core.List.{List, _++_}
 use lib.Dec.{eqb}
 use lib.IntN.{ℤ}
-use Rattle.decimal.specs.Ascii.{ascii}
-use Rattle.decimal.specs.Decimal.{signedOf}
-use Rattle.decimal.specs.Field.{field, lineEnd}
+use Rattle.writing.specs.Ascii.{ascii}
+use Rattle.writing.specs.Decimal.{signedOf}
+use Rattle.writing.specs.Field.{field, lineEnd}
 use Rattle.dispatch.specs.declared.Record.{Record}
 use Rattle.dispatch.specs.declared.look.Side.{Side}
 use Rattle.dispatch.specs.declared.look.Side.the-variants.{Upper, Lower}
@@ -16,7 +16,7 @@ use Rattle.dispatch.specs.declared.look.Choice.the-variants.{Idle, Fixed, Mover
 use Rattle.dispatch.specs.Release.{releaseOf}
 use Rattle.dispatch.specs.Finish.{finishOf}
 use Rattle.dispatch.specs.Look.{lookOf}
-use Rattle.dispatched.specs.Calls.{Call, release, finish, look}
+use Rattle.dispatch.specs.Calls.{Call, release, finish, look}
 
 -- a refused call: `refused 8`
 unfoldable pub refusedText : ℕ → List ℕ

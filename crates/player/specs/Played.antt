@@ -7,9 +7,9 @@ use lib.ListN.{length}
 use Rattle.dispatch.specs.declared.Record.{Record}
 use Rattle.dispatch.specs.declared.plan.Fresh.{Fresh}
 use Rattle.dispatch.specs.Record.{freshOf}
-use Rattle.dispatched.specs.Calls.{Call, step}
-use Rattle.program.specs.Program.{refusalText, unreadableText}
-use Rattle.input.specs.Input.{Given, plays, unplayable, inputOf, callsFrom}
+use Rattle.dispatch.specs.Calls.{Call, step}
+use Rattle.plan_answer.specs.Program.{refusalText, unreadableText}
+use Rattle.calls_text.specs.Input.{Given, plays, unplayable, inputOf, callsFrom}
 use Rattle.player.specs.Answers.{answerText}
 
 -- the answers of calls, each made on the record that the one before handed on

@@ -1,17 +1,17 @@
 // Writing a call's answer.
-use decimal::put_byte;
-use decimal::put_field;
-use decimal::put_signed;
-use decimal::put_text;
 use dispatch::look::Choice;
 use dispatch::look::Side;
 use units::ticks::Ticks;
+use writing::put_byte;
+use writing::put_field;
+use writing::put_signed;
+use writing::put_text;
 ghost use Prim.Native.Nat.{_+_, _≤_};
 ghost use mathlib.Core.List.{_++_};
-ghost use Rattle.decimal.specs.Decimal.{decimalOf};
-ghost use Rattle.decimal.specs.Field.{field};
-ghost use Rattle.decimal.specs.Limits.{placeLimit};
-ghost use Rattle.decimal.specs.Wrote.{Wrote};
+ghost use Rattle.writing.specs.Decimal.{decimalOf};
+ghost use Rattle.writing.specs.Field.{field};
+ghost use Rattle.writing.specs.Limits.{placeLimit};
+ghost use Rattle.writing.specs.Wrote.{Wrote};
 ghost use Rattle.player.specs.Answers.{refusedText, releasedText, finishedText, moverText, choiceText, lookedText};
 ghost use lib.ListN.{length};
 

@@ -1,18 +1,18 @@
 // What the player writes for an input.
 use crate::played::play_calls;
+use calls_text::calls::calls_place;
+use calls_text::calls::first_bad;
 use dispatch::Record;
-use input::calls::calls_place;
-use input::calls::first_bad;
-use program::NUMBERS;
-use program::put_refusal;
-use program::put_unreadable;
-use reading::Reading;
-use reading::read_text;
+use plan_answer::NUMBERS;
+use plan_answer::put_refusal;
+use plan_answer::put_unreadable;
+use table_text::Reading;
+use table_text::read_text;
 ghost use Prim.Native.Nat.{_≤_};
 ghost use lib.ListN.{length};
-ghost use Rattle.decimal.specs.Wrote.{Wrote};
-ghost use Rattle.reading.specs.Text.{says};
-ghost use Rattle.input.specs.Input.{inputLimit, plays, afterTable};
+ghost use Rattle.writing.specs.Wrote.{Wrote};
+ghost use Rattle.table_text.specs.Text.{says};
+ghost use Rattle.calls_text.specs.Input.{inputLimit, plays, afterTable};
 ghost use Rattle.player.specs.Played.{givenText, playText};
 
 // Bytes of an input, at most.

@@ -2,18 +2,18 @@
 use crate::answers::put_finished;
 use crate::answers::put_looked;
 use crate::answers::put_released;
+use calls_text::line::CallLine;
+use calls_text::line::line_after;
+use calls_text::line::read_call;
 use dispatch::Record;
-use input::line::CallLine;
-use input::line::line_after;
-use input::line::read_call;
 use units::ticks::Ticks;
 ghost use mathlib.Core.Path.{_≡_};
 ghost use Prim.Native.Nat.{_+_, _≤_};
 ghost use lib.ListN.{length};
-ghost use Rattle.decimal.specs.Limits.{placeLimit};
-ghost use Rattle.decimal.specs.Wrote.{Wrote};
-ghost use Rattle.dispatched.specs.Calls.{release, finish, look, step, after};
-ghost use Rattle.input.specs.Input.{inputLimit, callIn, callsFrom};
+ghost use Rattle.writing.specs.Limits.{placeLimit};
+ghost use Rattle.writing.specs.Wrote.{Wrote};
+ghost use Rattle.dispatch.specs.Calls.{release, finish, look, step, after};
+ghost use Rattle.calls_text.specs.Input.{inputLimit, callIn, callsFrom};
 ghost use Rattle.player.specs.Answers.{answerText};
 ghost use Rattle.player.specs.Played.{answersText};
 

@@ -2,3 +2,11 @@ pub mod Ranges
 pub mod Tasks
 pub mod Whole
 pub mod Facts
+pub mod PlannedLines
+pub mod Keeps
+pub mod Taken
+pub mod PlannedSound
+pub mod Put
+pub mod Added
+pub mod Counted
+pub mod TallyWide

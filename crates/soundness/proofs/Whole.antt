@@ -11,11 +11,11 @@ use Rattle.units.specs.Limits.{coresLimit, tasksLimit}
 use Rattle.lists.proofs.Tests.{by-cases}
 use Rattle.planning.specs.declared.Plan.{Plan}
 use Rattle.planning.specs.Plan.{noLine, tableOf}
-use Rattle.tally.specs.declared.Tally.{Tally}
+use Rattle.soundness.specs.declared.tally.Tally.{Tally}
 use Rattle.soundness.specs.Rules.{numbersIn, commonIs}
 use Rattle.lists.specs.Below.{allBelow}
 use Rattle.soundness.specs.Plan.{lineSound, lineOk, coreSound, planSound}
-use Rattle.tally.specs.Tally.{noTally, tallyOf, Weighed}
+use Rattle.soundness.specs.Tally.{noTally, tallyOf, Weighed}
 use Rattle.soundness.specs.Tests.{tallySound}
 use Rattle.lists.proofs.Below.{all-at, all-same}
 use Rattle.soundness.proofs.Ranges.{sound-sum, sound-small, Zero, empty-zero}

@@ -1,3 +1,4 @@
 pub mod Rules
 pub mod Plan
 pub mod Tests
+pub mod Tally

@@ -3,7 +3,7 @@ use Prim.Native.Nat.{ℕ, _/_, _%_}
 use mathlib.Core.Bool.{Bool, cond, _&&_, _||_, not}
 use lib.Dec.{ltb, leb, eqb}
 use Rattle.arith.specs.Divisor.{gcd}
-use Rattle.tally.specs.declared.Tally.{Tally}
+use Rattle.soundness.specs.declared.tally.Tally.{Tally}
 
 -- the rules for core p of m cores of l units
 abbrev pub tallySound : ℕ → ℕ → ℕ → Tally → Bool

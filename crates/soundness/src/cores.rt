@@ -1,5 +1,5 @@
 // The rules for one core, by its tally.
-use tally::Tally;
+use crate::tally::Tally;
 use units::limits::CORES;
 ghost use mathlib.Core.Path.{_≡_};
 ghost use mathlib.Core.Bool.{_&&_, _||_, not};
@@ -7,7 +7,7 @@ ghost use lib.Dec.{ltb, leb, eqb};
 ghost use lib.ListN.{getD};
 ghost use Rattle.units.specs.Limits.{coresLimit};
 ghost use Rattle.lists.specs.Below.{allBelow};
-ghost use Rattle.tally.specs.Tally.{noTally};
+ghost use Rattle.soundness.specs.Tally.{noTally};
 ghost use Rattle.soundness.specs.Tests.{tallySound};
 
 // The load of core p is at most L, and 0 if it is not among the M cores.

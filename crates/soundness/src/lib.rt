@@ -2,3 +2,4 @@
 pub mod cores;
 pub mod lines;
 pub mod plan;
+pub mod tally;

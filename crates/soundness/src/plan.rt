@@ -2,9 +2,9 @@
 use crate::cores::cores_sound;
 use crate::lines::line_empty;
 use crate::lines::line_sound;
+use crate::tally::tallies_of;
 use arith::divisor::gcd;
 use planning::Plan;
-use tally::tallies_of;
 use units::limits::COMMON;
 use units::limits::CORES;
 use units::limits::TASKS;

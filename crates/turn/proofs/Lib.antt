@@ -2,3 +2,9 @@ pub mod Counting
 pub mod Search
 pub mod Choice
 pub mod Examples
+pub mod Behind
+pub mod Pace
+pub mod Cycle
+pub mod Fair
+pub mod Keeps
+pub mod Turns

@@ -4,9 +4,9 @@ use Rattle.dispatch.proofs.Numbers.{task-first, finish-first, finish-ow
 use Rattle.dispatch.specs.Record.{stateAt, moved}
 use Rattle.dispatch.specs.Refusals.{taskNo, finishNo}
 use Rattle.dispatch.specs.Finish.{takeFinish, refuseFinish}
-use Rattle.state.specs.declared.State.{State}
-use Rattle.state.specs.Key.{deadlineOf}
-use Rattle.state.proofs.Passed.{has-run}
+use Rattle.task_state.specs.declared.State.{State}
+use Rattle.task_state.specs.Key.{deadlineOf}
+use Rattle.task_state.proofs.Passed.{has-run}
 use Rattle.arith.proofs.Signed.{pos-fits, sub-fits, sub-is}
 use Rattle.units.specs.Limits.{clockLimit, periodLimit}
 use lib.IntN.{ℤ, subℕ}

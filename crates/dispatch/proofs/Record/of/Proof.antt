@@ -1,5 +1,5 @@
 use Rattle.dispatch.specs.Record.{recordOf}
-use Rattle.state.specs.State.{freshState}
+use Rattle.task_state.specs.State.{freshState}
 use mathlib.Core.Path.{refl}
 use Rattle.dispatch.proofs.Record.of.Statement.{statement}
 use Rattle.dispatch.proofs.Record.of.Tie as tie

@@ -4,8 +4,8 @@ use Rattle.dispatch.proofs.Numbers.{task-first, release-first, release-
 use Rattle.dispatch.specs.Record.{moved}
 use Rattle.dispatch.specs.Refusals.{taskNo, releaseNo}
 use Rattle.dispatch.specs.Release.{takeRelease, refuseRelease}
-use Rattle.state.specs.Runs.{takenRun}
-use Rattle.state.specs.declared.runs.Taken.{Taken}
+use Rattle.task_state.specs.Runs.{takenRun}
+use Rattle.task_state.specs.declared.runs.Taken.{Taken}
 use native.Mathlib.Omega.{arith}
 use mathlib.Core.Path.{_≡_, sym, ap₂, _∙_}
 use Prim.Native.Nat.{ℕ, _-_}

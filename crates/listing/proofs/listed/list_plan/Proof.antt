@@ -5,8 +5,8 @@ use native.Mathlib.Omega.{arith}
 use lib.ListN.{length, length-map}
 use Rattle.units.specs.Limits.{tasksLimit}
 use Rattle.soundness.proofs.Facts.{tasks-few}
-use Rattle.dispatched.specs.Shape.{PlanShaped}
-use Rattle.dispatched.proofs.Plans.{sound-kept}
+use Rattle.dispatch.specs.Shape.{PlanShaped}
+use Rattle.dispatch.proofs.Plans.{sound-kept}
 use Rattle.listing.proofs.Wide.{wide}
 use Rattle.listing.proofs.Answers.{too-long, written}
 use Rattle.listing.proofs.Fits.{listing-length}

@@ -1,5 +1,5 @@
 -- `listing::writers::put_head` meets its contract.
-use Rattle.decimal.proofs.Wrote.{then}
+use Rattle.writing.proofs.Wrote.{then}
 use Rattle.listing.specs.Listing.{headText}
 use borrow.Author.Needs.{needs}
 use Rattle.listing.proofs.writers.put_head.Statement.{statement}

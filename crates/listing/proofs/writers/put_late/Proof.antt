@@ -3,10 +3,10 @@ use mathlib.Core.Path.{ap}
 use mathlib.Core.List.{_++_}
 use mir.Syntax.{w64}
 use mir.ValLaws.{toZ-ofZ}
-use Rattle.decimal.specs.Ascii.{ascii}
-use Rattle.decimal.specs.Decimal.{signedOf}
-use Rattle.decimal.proofs.Wrote.{then, recast}
-use Rattle.decimal.specs.Field.{lineEnd}
+use Rattle.writing.specs.Ascii.{ascii}
+use Rattle.writing.specs.Decimal.{signedOf}
+use Rattle.writing.proofs.Wrote.{then, recast}
+use Rattle.writing.specs.Field.{lineEnd}
 use Rattle.listing.specs.Listing.{lateText}
 use borrow.Author.Needs.{needs}
 use Rattle.listing.proofs.writers.put_late.Statement.{statement}

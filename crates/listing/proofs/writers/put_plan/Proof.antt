@@ -1,8 +1,8 @@
 -- `listing::writers::put_plan` meets its contract.
 use mathlib.Core.Path.{ap}
 use mathlib.Core.List.{_++_}
-use Rattle.decimal.proofs.Wrote.{then, recast}
-use Rattle.decimal.specs.Field.{field, lineEnd}
+use Rattle.writing.proofs.Wrote.{then, recast}
+use Rattle.writing.specs.Field.{field, lineEnd}
 use Rattle.listing.specs.Listing.{tasksText, listingText}
 use borrow.Author.Needs.{needs}
 use Rattle.listing.proofs.writers.put_plan.Statement.{statement}

@@ -3,7 +3,7 @@ use Prim.Native.Nat.{ℕ, _≤_, _<_}
 use native.Mathlib.Omega.{arith}
 use Rattle.lists.specs.Lists.{parts}
 use Rattle.units.specs.Units.{nums}
-use Rattle.decimal.proofs.Wrote.{then, recast}
+use Rattle.writing.proofs.Wrote.{then, recast}
 use Rattle.listing.proofs.Texts.{row-moves, row-fixed}
 use borrow.Author.Needs.{needs}
 use Rattle.listing.proofs.writers.put_row.Statement.{statement}

@@ -1,5 +1,5 @@
 -- `listing::writers::put_share` meets its contract.
-use Rattle.decimal.proofs.Wrote.{then, recast, none}
+use Rattle.writing.proofs.Wrote.{then, recast, none}
 use Rattle.listing.proofs.Texts.{share-none, share-some}
 use borrow.Author.Needs.{needs}
 use Rattle.listing.proofs.writers.put_share.Statement.{statement}

@@ -7,8 +7,8 @@ use lib.ListN.{length, take, drop}
 use Rattle.units.specs.Limits.{coresLimit}
 use Rattle.units.specs.Units.{nums}
 use Rattle.lists.specs.Lists.{parts as partsOf}
-use Rattle.decimal.specs.Wrote.{Wrote}
-use Rattle.decimal.proofs.Wrote.{then, recast, none}
+use Rattle.writing.specs.Wrote.{Wrote}
+use Rattle.writing.proofs.Wrote.{then, recast, none}
 use Rattle.listing.specs.Listing.{sharesText}
 use Rattle.listing.proofs.Texts.{cores-more, shares-done, part-there, part-less, part-same}
 use borrow.Author.Needs.{needs}

@@ -3,7 +3,7 @@ use mathlib.Core.Path.{ap}
 use mathlib.Core.List.{_++_}
 use mir.Syntax.{w64}
 use mir.ValLaws.{toZ-ofZ}
-use Rattle.decimal.proofs.Wrote.{then, recast}
+use Rattle.writing.proofs.Wrote.{then, recast}
 use Rattle.planning.specs.Plan.{rowOf}
 use Rattle.listing.specs.Listing.{headText, rowText, lateText, taskText}
 use borrow.Author.Needs.{needs}

@@ -9,8 +9,8 @@ use mir.ValLaws.{toZ-ofZ}
 use lib.IntN.{ℤ, pos}
 use lib.ListN.{length, getD}
 use Rattle.planning.specs.Plan.{noLine}
-use Rattle.decimal.specs.Wrote.{Wrote}
-use Rattle.decimal.proofs.Wrote.{then, recast, none}
+use Rattle.writing.specs.Wrote.{Wrote}
+use Rattle.writing.proofs.Wrote.{then, recast, none}
 use Rattle.listing.specs.Listing.{taskText, tasksText}
 use Rattle.listing.proofs.Texts.{tasks-more}
 use borrow.Author.Needs.{needs}

@@ -1,6 +1,6 @@
 -- `player::answers::put_choice` meets its contract.
 use mathlib.Core.Path.{sym, ap}
-use Rattle.decimal.proofs.Wrote.{recast}
+use Rattle.writing.proofs.Wrote.{recast}
 use Rattle.player.specs.Answers.{choiceText}
 use borrow.Author.Needs.{needs}
 use Rattle.player.proofs.answers.put_choice.Statement.{statement}

@@ -1,5 +1,5 @@
 -- `player::answers::put_chosen` meets its contract.
-use Rattle.decimal.proofs.Wrote.{then}
+use Rattle.writing.proofs.Wrote.{then}
 use borrow.Author.Needs.{needs}
 use Rattle.player.proofs.answers.put_chosen.Statement.{statement}
 use Rattle.player.proofs.answers.put_chosen.Tie as tie

@@ -3,10 +3,10 @@ use mathlib.Core.Path.{ap, _∙_}
 use mathlib.Core.List.{_++_}
 use mir.Syntax.{w64}
 use mir.ValLaws.{toZ-ofZ}
-use Rattle.decimal.specs.Ascii.{ascii}
-use Rattle.decimal.specs.Decimal.{signedOf}
-use Rattle.decimal.specs.Field.{lineEnd}
-use Rattle.decimal.proofs.Wrote.{then, recast}
+use Rattle.writing.specs.Ascii.{ascii}
+use Rattle.writing.specs.Decimal.{signedOf}
+use Rattle.writing.specs.Field.{lineEnd}
+use Rattle.writing.proofs.Wrote.{then, recast}
 use Rattle.player.proofs.Texts.{finished, finished-not}
 use borrow.Author.Needs.{needs}
 use Rattle.player.proofs.answers.put_finished.Statement.{statement}

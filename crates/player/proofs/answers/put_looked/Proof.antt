@@ -1,5 +1,5 @@
 -- `player::answers::put_looked` meets its contract.
-use Rattle.decimal.proofs.Wrote.{then, recast}
+use Rattle.writing.proofs.Wrote.{then, recast}
 use Rattle.player.proofs.Texts.{looked, looked-not}
 use borrow.Author.Needs.{needs}
 use Rattle.player.proofs.answers.put_looked.Statement.{statement}

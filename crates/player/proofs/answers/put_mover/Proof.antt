@@ -1,5 +1,5 @@
 -- `player::answers::put_mover` meets its contract.
-use Rattle.decimal.proofs.Wrote.{recast}
+use Rattle.writing.proofs.Wrote.{recast}
 use Rattle.player.proofs.Texts.{upper, lower}
 use borrow.Author.Needs.{needs}
 use Rattle.player.proofs.answers.put_mover.Statement.{statement}

@@ -1,5 +1,5 @@
 -- `player::answers::put_refused` meets its contract.
-use Rattle.decimal.proofs.Wrote.{then}
+use Rattle.writing.proofs.Wrote.{then}
 use Rattle.player.specs.Answers.{refusedText}
 use borrow.Author.Needs.{needs}
 use Rattle.player.proofs.answers.put_refused.Statement.{statement}

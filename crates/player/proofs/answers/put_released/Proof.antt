@@ -1,5 +1,5 @@
 -- `player::answers::put_released` meets its contract.
-use Rattle.decimal.proofs.Wrote.{then, recast}
+use Rattle.writing.proofs.Wrote.{then, recast}
 use Rattle.player.proofs.Texts.{released, released-not}
 use borrow.Author.Needs.{needs}
 use Rattle.player.proofs.answers.put_released.Statement.{statement}

@@ -1,7 +1,7 @@
 -- `player::play::play` meets its contract.
-use Rattle.decimal.proofs.Wrote.{recast}
+use Rattle.writing.proofs.Wrote.{recast}
 use native.Mathlib.Omega.{arith}
-use Rattle.reading.proofs.Answered.{is-unreadable, is-few, is-read, part-few}
+use Rattle.table_text.proofs.Answered.{is-unreadable, is-few, is-read, part-few}
 use Rattle.player.proofs.Gives.{too-long, table-bad, table-good}
 use borrow.Author.Needs.{needs}
 use Rattle.player.proofs.play.play.Statement.{statement}

@@ -1,5 +1,5 @@
 -- `player::play::play_table` meets its contract.
-use Rattle.decimal.proofs.Wrote.{recast}
+use Rattle.writing.proofs.Wrote.{recast}
 use Rattle.player.proofs.Gives.{no-calls, bad-call, good-calls}
 use borrow.Author.Needs.{needs}
 use Rattle.player.proofs.play.play_table.Statement.{statement}

@@ -1,5 +1,5 @@
 -- `player::play::play_taken` meets its contract.
-use Rattle.decimal.proofs.Wrote.{recast}
+use Rattle.writing.proofs.Wrote.{recast}
 use Rattle.player.proofs.Gives.{refused, taken}
 use borrow.Author.Needs.{needs}
 use Rattle.player.proofs.play.play_taken.Statement.{statement}

@@ -2,9 +2,9 @@ use Prim.Native.Nat.{_-_}
 use mathlib.Core.Path.{sym, ap, _∙_}
 use native.Mathlib.Omega.{arith}
 use lib.ListN.{length}
-use Rattle.decimal.proofs.Wrote.{kept}
-use Rattle.input.specs.Line.{lineAfter}
-use Rattle.input.proofs.Lines.{ahead}
+use Rattle.writing.proofs.Wrote.{kept}
+use Rattle.calls_text.specs.Line.{lineAfter}
+use Rattle.calls_text.proofs.Lines.{ahead}
 use Rattle.player.proofs.Plays.{Playing, begun, ended, stopped, onward}
 use borrow.Author.Needs.{needs}
 -- `player::played::play_calls` meets its contract.

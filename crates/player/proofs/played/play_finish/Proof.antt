@@ -4,7 +4,7 @@ use mir.Syntax.{w64}
 use mir.Val.{SFits}
 use mir.ValLaws.{toZ-ofZ}
 use Rattle.player.specs.Answers.{finishedText}
-use Rattle.decimal.proofs.Wrote.{recast}
+use Rattle.writing.proofs.Wrote.{recast}
 use Rattle.dispatch.specs.declared.finish.Finished.{Finished}
 use Rattle.player.proofs.Plays.{finish-text}
 use borrow.Author.Needs.{needs}

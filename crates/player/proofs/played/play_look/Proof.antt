@@ -1,6 +1,6 @@
 -- `player::played::play_look` meets its contract.
 use mathlib.Core.Path.{sym, ap, _∙_}
-use Rattle.decimal.proofs.Wrote.{recast}
+use Rattle.writing.proofs.Wrote.{recast}
 use Rattle.dispatch.specs.declared.look.Looked.{Looked}
 use Rattle.player.proofs.Plays.{look-text}
 use borrow.Author.Needs.{needs}

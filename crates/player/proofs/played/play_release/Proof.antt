@@ -1,6 +1,6 @@
 -- `player::played::play_release` meets its contract.
 use mathlib.Core.Path.{sym, ap, _∙_}
-use Rattle.decimal.proofs.Wrote.{recast}
+use Rattle.writing.proofs.Wrote.{recast}
 use Rattle.dispatch.specs.declared.release.Released.{Released}
 use Rattle.player.proofs.Plays.{release-text}
 use borrow.Author.Needs.{needs}

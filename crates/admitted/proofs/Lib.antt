@@ -1,7 +1,0 @@
-pub mod Tests
-pub mod Applies
-pub mod Gives
-pub mod FirstThatApplies
-pub mod Exactly
-pub mod Padded
-pub mod Weights

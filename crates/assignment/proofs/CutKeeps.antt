@@ -1,0 +1,100 @@
+-- Pass two, by sums over the first cores: a task takes the smaller of its need and of their room.
+use Prim.Native.Nat.{ℕ, zero, suc, _+_, _-_, _≤_, _<_, min}
+use mathlib.Core.Path.{_≡_, refl}
+use mathlib.Core.Logic.{⊎-elim}
+use mathlib.Core.Bool.{true}
+use mathlib.Core.List.{List, [], _∷_, map}
+use native.Mathlib.Omega.{arith}
+use lib.ListN.{getD, take}
+use Rattle.lists.specs.Lists.{sum}
+use Rattle.lists.specs.Rows.{count, column}
+use Rattle.lists.proofs.Tests.{bit-cases}
+use Rattle.lists.proofs.Lists.{sum-take-suc, sum-ends}
+use Rattle.assignment.specs.Passes.{cut, rest, passTwo}
+use Rattle.assignment.specs.Movers.{upper, lower}
+use Rattle.assignment.proofs.Words.{upper-says, lower-says}
+
+-- what it takes of the first p cores
+pub cut-take : (n : ℕ) (rs : List ℕ) (p : ℕ) → sum (take p (cut n rs)) ≡ min n (sum (take p rs))
+cut-take n [] zero = omega arith
+cut-take n [] (suc p) = omega arith
+cut-take n (r ∷ rs) zero = omega arith
+cut-take n (r ∷ rs) (suc p) = omega (arith, cut-take (n - r) rs p)
+
+-- what they have left
+pub rest-take : (n : ℕ) (rs : List ℕ) (p : ℕ) → sum (take p (rest n rs)) ≡ sum (take p rs) - n
+rest-take n [] zero = omega arith
+rest-take n [] (suc p) = omega arith
+rest-take n (r ∷ rs) zero = omega arith
+rest-take n (r ∷ rs) (suc p) = omega (arith, rest-take (n - r) rs p)
+
+-- the same of all cores
+pub cut-sum : (n : ℕ) (rs : List ℕ) → sum (cut n rs) ≡ min n (sum rs)
+cut-sum n [] = omega arith
+cut-sum n (r ∷ rs) = omega (arith, cut-sum (n - r) rs)
+
+pub rest-sum : (n : ℕ) (rs : List ℕ) → sum (rest n rs) ≡ sum rs - n
+rest-sum n [] = omega arith
+rest-sum n (r ∷ rs) = omega (arith, rest-sum (n - r) rs)
+
+-- taken and left are what there was, on each core
+cut-rest : (n : ℕ) (rs : List ℕ) (p : ℕ) → getD (cut n rs) p 0 + getD (rest n rs) p 0 ≡ getD rs p 0
+cut-rest n [] p = omega arith
+cut-rest n (r ∷ rs) zero = omega arith
+cut-rest n (r ∷ rs) (suc p) = cut-rest (n - r) rs p
+
+-- pass two gives each task its whole weight, where there is room for all
+pub passTwo-sums : (ws room : List ℕ) → sum ws ≤ sum room → map sum (passTwo ws room) ≡ ws
+passTwo-sums [] room h = refl
+passTwo-sums (w ∷ ws) room h =
+    let e : sum (cut w room) ≡ w = omega (arith, cut-sum w room) in
+    let ih : map sum (passTwo ws (rest w room)) ≡ ws = passTwo-sums ws (rest w room) (omega (arith, rest-sum w room)) in
+    λ i. e i ∷ ih i
+
+-- and fills no core past its room
+pub passTwo-column : (p : ℕ) (ws room : List ℕ) → column p (passTwo ws room) ≤ getD room p 0
+passTwo-column p [] room = omega arith
+passTwo-column p (w ∷ ws) room = omega (arith, passTwo-column p ws (rest w room), cut-rest w room p)
+
+module _ (p w : ℕ) (room : List ℕ) where
+  -- an upper mover leaves no room below the core
+  upper-means : upper p (cut w room) ≡ true → (0 < sum (take p room)) × (sum (take p room) < w)
+  upper-means e =
+      omega (
+        arith,
+        upper-says p (cut w room) e,
+        cut-take w room p,
+        cut-take w room (suc p),
+        sum-take-suc (cut w room) p,
+        sum-take-suc room p,
+      )
+
+  -- a lower mover leaves none up to the core
+  lower-means : lower p (cut w room) ≡ true → (0 < sum (take (suc p) room)) × (sum (take (suc p) room) < w)
+  lower-means e =
+      omega (
+        arith,
+        lower-says p (cut w room) e,
+        cut-take w room (suc p),
+        sum-take-suc (cut w room) p,
+        sum-ends (cut w room) (suc p),
+        cut-sum w room,
+      )
+
+-- so no task after it is upper there
+pub passTwo-uppers : (p : ℕ) (ws room : List ℕ) → count (upper p) (passTwo ws room) ≤ min 1 (sum (take p room))
+passTwo-uppers p [] room = omega arith
+passTwo-uppers p (w ∷ ws) room =
+    ⊎-elim
+    (λ h. omega (arith, passTwo-uppers p ws (rest w room), rest-take w room p, upper-means p w room (h .0)))
+    (λ h. omega (arith, passTwo-uppers p ws (rest w room), rest-take w room p))
+    (bit-cases (upper p (cut w room)))
+
+-- nor lower
+pub passTwo-lowers : (p : ℕ) (ws room : List ℕ) → count (lower p) (passTwo ws room) ≤ min 1 (sum (take (suc p) room))
+passTwo-lowers p [] room = omega arith
+passTwo-lowers p (w ∷ ws) room =
+    ⊎-elim
+    (λ h. omega (arith, passTwo-lowers p ws (rest w room), rest-take w room (suc p), lower-means p w room (h .0)))
+    (λ h. omega (arith, passTwo-lowers p ws (rest w room), rest-take w room (suc p)))
+    (bit-cases (lower p (cut w room)))

@@ -1,0 +1,26 @@
+-- `input::line::read_look` meets its contract.
+use mathlib.Core.Path.{sym, ap, _∙_}
+use Rattle.calls_text.specs.Line.{asLook}
+use borrow.Author.Needs.{needs}
+use Rattle.calls_text.proofs.line.read_look.Statement.{statement}
+use Rattle.calls_text.proofs.line.read_look.Tie as tie
+
+read-pair-requires : tie.Need-read-pair-requires
+read-pair-requires c κs = search needs
+
+enum-told : tie.Need-enum-told
+enum-told c = search needs
+
+enum-known-k : tie.Need-enum-known-k
+enum-known-k c = search needs
+
+returns : tie.Need-returns
+unfolding asLook
+returns c = sym (ap asLook (sym (c .before .before .read-pair .ensures) ∙ c .enum-told .given .1))
+
+returns-2 : tie.Need-returns-2
+unfolding asLook
+returns-2 c = sym (ap asLook (sym (c .before .before .before .read-pair .ensures) ∙ c .before .k .given .1))
+
+pub read-look-spec : {M : Type 1} → statement M
+read-look-spec = tie.close (tie.spec read-pair-requires enum-told enum-known-k returns returns-2)

@@ -1,0 +1,73 @@
+-- The player's input: a table's text, a line `calls`, then one call to a line, at most 65,536 bytes.
+use Prim.Native.Nat.{ℕ, zero, suc, _+_, _-_, _/_}
+use mathlib.Core.Bool.{Bool, cond, _&&_, _||_}
+use mathlib.Core.List.{List, [], _∷_}
+use lib.Dec.{ltb, eqb}
+use lib.ListN.{length, getD, take, drop}
+use Rattle.writing.specs.Ascii.{ascii, newline}
+use Rattle.scanning.specs.Word.{starts}
+use Rattle.scanning.specs.Lines.{unreadableFrom}
+use Rattle.table_text.specs.Text.{Said, says, unreadable, textOf}
+use Rattle.dispatch.specs.Calls.{Call, release, finish, look}
+use Rattle.calls_text.specs.Line.{callLine, lineAfter}
+use Rattle.calls_text.specs.declared.line.CallLine.{CallLine}
+use Rattle.calls_text.specs.declared.line.CallLine.the-variants.{Release, Finish, Look, NoCall}
+
+-- bytes of an input, at most
+abbrev pub inputLimit : ℕ
+inputLimit = 65536
+
+-- what an input says: a core count, the table's numbers and the place of the first call, or nothing, and then a line is named
+pub data Given : Type 0 where
+  plays : ℕ → List ℕ → ℕ → Given
+  unplayable : ℕ → Given
+
+-- a line starts at a place: at the first, or after a newline
+abbrev pub lineStarts : List ℕ → ℕ → Bool
+lineStarts s at = eqb at 0 || eqb (getD s (at - 1) 0) newline
+
+-- the line `calls` stands at a place
+unfoldable pub callsHere : List ℕ → ℕ → Bool
+callsHere s at = lineStarts s at && starts (ascii "calls\n") (drop at s)
+
+-- the first of n places, from one on, that passes a test; the place after them if none does
+unfoldable pub firstPlace : (ℕ → Bool) → ℕ → ℕ → ℕ
+firstPlace f zero at = at
+firstPlace f (suc n) at = cond (f at) at (firstPlace f n (at + 1))
+
+-- where the first line `calls` stands, and the text's end if there is none
+unfoldable pub callsPlace : List ℕ → ℕ
+callsPlace s = firstPlace (callsHere s) (length s) 0
+
+-- the first unreadable one of the calls from a place on, where this line starts, and 0 if there is none
+abbrev pub badCall : List ℕ → ℕ → ℕ → ℕ
+badCall s line at = unreadableFrom (λ p. lineAfter (callLine s p)) (length s) (length s) line at
+
+-- the calls of a table, the first of them at a place, if each can be read; the core count, the tasks and `calls` have a line each before them
+unfoldable pub afterCalls : List ℕ → ℕ → List ℕ → ℕ → Given
+afterCalls s m xs at = cond (eqb (badCall s (3 + length xs / 2) at) 0) (plays m xs at) (unplayable (badCall s (3 + length xs / 2) at))
+
+-- what stands before the line `calls` is the table's text; where there is none, the line after the last is named
+unfoldable pub afterTable : List ℕ → ℕ → Said → Given
+afterTable s p (says m xs) = cond (ltb p (length s)) (afterCalls s m xs (p + 6)) (unplayable (2 + length xs / 2))
+afterTable s p (unreadable line) = unplayable line
+
+-- the whole input; line 0 is named where it is too long, tested first
+unfoldable pub inputOf : List ℕ → Given
+inputOf s = cond (ltb inputLimit (length s)) (unplayable 0) (afterTable s (callsPlace s) (textOf (take (callsPlace s) s)))
+
+-- this line's call, then the later ones
+unfoldable pub thenCalls : (ℕ → List Call) → CallLine → List Call
+thenCalls later (Release i t next) = release i t ∷ later next
+thenCalls later (Finish i t next) = finish i t ∷ later next
+thenCalls later (Look k t next) = look k t ∷ later next
+thenCalls later NoCall = []
+
+-- the call of a line, if it has one
+abbrev pub callIn : CallLine → List Call
+callIn line = thenCalls (λ next. []) line
+
+-- the calls from a place on; f is no less than the lines' number
+unfoldable pub callsFrom : ℕ → List ℕ → ℕ → List Call
+callsFrom zero s at = []
+callsFrom (suc f) s at = cond (ltb at (length s)) (thenCalls (λ next. callsFrom f s next) (callLine s at)) []

@@ -1,0 +1,92 @@
+// Reading a call's line.
+use scanning::line::Pair;
+use scanning::line::read_pair;
+use scanning::word::Word;
+use scanning::word::read_word;
+ghost use mathlib.Core.Path.{_≡_};
+ghost use Rattle.writing.specs.Ascii.{ascii};
+ghost use Rattle.scanning.specs.Word.{wordAt};
+ghost use Rattle.calls_text.specs.Line.{numbersAt, asRelease, asFinish, asLook, lookOr, finishOr, callLine, lineAfter};
+
+// 10^15, which each number is below.
+const BOUND: u64 = 1_000_000_000_000_000;
+
+// A call's task or core, its time, and the place after its line.
+pub enum CallLine {
+    Release(u64, u64, usize),
+    Finish(u64, u64, usize),
+    Look(u64, u64, usize),
+    NoCall,
+}
+
+// The numbers of a release.
+fn read_release(text: &[u8], at: usize) -> CallLine
+    ensures { λ r. ⌜ r ≡ asRelease (numbersAt (now (text .entry)) at) ⌝ }
+{
+    match read_pair(text, at, BOUND) {
+        Pair::NoPair => CallLine::NoCall,
+        Pair::Two(i, t, next) => CallLine::Release(i, t, next),
+    }
+}
+
+// The numbers of a finish.
+fn read_finish(text: &[u8], at: usize) -> CallLine
+    ensures { λ r. ⌜ r ≡ asFinish (numbersAt (now (text .entry)) at) ⌝ }
+{
+    match read_pair(text, at, BOUND) {
+        Pair::NoPair => CallLine::NoCall,
+        Pair::Two(i, t, next) => CallLine::Finish(i, t, next),
+    }
+}
+
+// The numbers of a look.
+fn read_look(text: &[u8], at: usize) -> CallLine
+    ensures { λ r. ⌜ r ≡ asLook (numbersAt (now (text .entry)) at) ⌝ }
+{
+    match read_pair(text, at, BOUND) {
+        Pair::NoPair => CallLine::NoCall,
+        Pair::Two(k, t, next) => CallLine::Look(k, t, next),
+    }
+}
+
+// A look's line, or no call's.
+fn look_or(text: &[u8], at: usize) -> CallLine
+    ensures { λ r. ⌜ r ≡ lookOr (now (text .entry)) (wordAt (ascii "look ") (now (text .entry)) at) ⌝ }
+{
+    match read_word(text, at, b"look ") {
+        Word::NoWord => CallLine::NoCall,
+        Word::After(next) => read_look(text, next),
+    }
+}
+
+// A finish's line, or one of those.
+fn finish_or(text: &[u8], at: usize) -> CallLine
+    ensures { λ r. ⌜ r ≡ finishOr (now (text .entry)) at (wordAt (ascii "finish ") (now (text .entry)) at) ⌝ }
+{
+    match read_word(text, at, b"finish ") {
+        Word::NoWord => look_or(text, at),
+        Word::After(next) => read_finish(text, next),
+    }
+}
+
+// The call's line at a place.
+pub fn read_call(text: &[u8], at: usize) -> CallLine
+    ensures { λ r. ⌜ r ≡ callLine (now (text .entry)) at ⌝ }
+{
+    match read_word(text, at, b"release ") {
+        Word::NoWord => finish_or(text, at),
+        Word::After(next) => read_release(text, next),
+    }
+}
+
+// The place after a line, and 0 where it cannot be read.
+pub fn line_after(line: CallLine) -> usize
+    ensures { λ r. ⌜ r ≡ lineAfter line ⌝ }
+{
+    match line {
+        CallLine::Release(i, t, next) => next,
+        CallLine::Finish(i, t, next) => next,
+        CallLine::Look(k, t, next) => next,
+        CallLine::NoCall => 0,
+    }
+}

@@ -1,0 +1,70 @@
+-- The box of E1 under calls: task 5 moves with shares 1, 2, 1, and its accepted runs go to cores 2, 1, 2, 3, refused calls between them or not.
+use Prim.Native.Nat.{ℕ}
+use mathlib.Core.Path.{_≡_, refl}
+use mathlib.Core.Bool.{true}
+use mathlib.Core.List.{[], _∷_}
+use lib.Dec.{eqb}
+use lib.ListN.{length, getD}
+use borrow.Author.Tests.{eqb-true}
+use Rattle.units.specs.Limits.{coresLimit, tasksLimit}
+use Rattle.lists.specs.Below.{allBelow}
+use Rattle.lists.proofs.Below.{all-at}
+use Rattle.arith.specs.Divisor.{euclid, gcd, lcm}
+use Rattle.arith.specs.Period.{common, periodOf}
+use Rattle.admission.specs.Refusals.{inputTest}
+use Rattle.admission.specs.Admission.{refusalOf}
+use Rattle.ordering.specs.Order.{order, inOrder}
+use Rattle.assignment.specs.Passes.{blank, sharesOf}
+use Rattle.planning.specs.declared.Plan.{Plan}
+use Rattle.planning.specs.Plan.{noLine, emptyLine, emptyPlan, planFor, refusedPlan, takenPlan, planOf}
+use Rattle.soundness.specs.Plan.{planSound}
+use Rattle.turn.specs.Turn.{bestFrom, coreOf, counted, turnOf}
+use Rattle.task_state.specs.State.{freshState}
+use Rattle.task_state.specs.Runs.{withRun, withoutRun}
+use Rattle.dispatch.specs.Record.{recordOf}
+use Rattle.dispatch.specs.Sound.{soundOf}
+use Rattle.dispatch.specs.Refusals.{taskNo, lookNo, releaseNo, finishNo}
+use Rattle.dispatch.specs.Release.{takeRelease, refuseRelease, releaseOf}
+use Rattle.dispatch.specs.Finish.{takeFinish, refuseFinish, finishOf}
+use Rattle.dispatch.specs.Look.{lookOf}
+use Rattle.dispatch.specs.Shape.{PlanShaped, Good}
+use Rattle.dispatch.specs.Calls.{release, finish, look, coresOf}
+use Rattle.dispatch.proofs.Fresh.{fresh-good}
+
+-- its plan
+unfoldable pub plan : Plan
+plan = planOf 4 (5 ∷ 6 ∷ 4 ∷ 6 ∷ 2 ∷ 3 ∷ 2 ∷ 3 ∷ 2 ∷ 3 ∷ 1 ∷ 2 ∷ []) .plan
+
+-- the definitions that it and the calls compute by
+defs : ℕ
+unfolding plan planOf takenPlan refusedPlan planFor emptyPlan emptyLine refusalOf inputTest common periodOf lcm gcd euclid sharesOf blank order inOrder planSound recordOf freshState soundOf allBelow taskNo lookNo releaseNo finishNo releaseOf takeRelease refuseRelease finishOf takeFinish refuseFinish lookOf withRun withoutRun turnOf coreOf bestFrom counted
+defs = 0
+
+-- it is sound
+sound : planSound plan ≡ true
+unfolding defs
+sound = refl
+
+-- each line has sixteen shares
+wide : allBelow tasksLimit (λ i. eqb (length (getD (plan .lines) i noLine .shares)) coresLimit) ≡ true
+unfolding defs
+wide = refl
+
+-- and has its lines
+shaped : PlanShaped plan
+unfolding defs
+shaped = record {
+  lines = refl;
+  shares = λ i h.
+      eqb-true (length (getD (plan .lines) i noLine .shares)) coresLimit
+      (all-at tasksLimit i (λ j. eqb (length (getD (plan .lines) j noLine .shares)) coresLimit) h wide);
+}
+
+-- so its fresh record is good
+pub good : Good (recordOf plan)
+good = fresh-good plan shaped sound
+
+-- releases of task 5 at 0, 2 (too early), 3, 5 (too early), 9 and 12, among other calls
+pub cores : coresOf 5 (recordOf plan) (release 5 0 ∷ release 5 2 ∷ release 5 3 ∷ finish 5 4 ∷ release 6 5 ∷ release 5 5 ∷ look 2 6 ∷ release 5 9 ∷ look 2 8 ∷ release 5 12 ∷ []) ≡ 2 ∷ 1 ∷ 2 ∷ 3 ∷ []
+unfolding defs
+cores = refl

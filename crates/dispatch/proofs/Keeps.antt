@@ -1,0 +1,67 @@
+-- Each call keeps a good record good, whatever its numbers.
+use Prim.Native.Nat.{ℕ, _-_, _<_}
+use mathlib.Core.Path.{_≡_, sym, subst}
+use native.Mathlib.Decide.{ℕ-discrete}
+use native.Mathlib.Omega.{arith}
+use Rattle.task_state.specs.Runs.{withRun, withoutRun}
+use Rattle.task_state.proofs.Facts.{facts, turnable}
+use Rattle.task_state.proofs.Passed.{has-room}
+use Rattle.task_state.proofs.Taken.{with-shaped, with-sound}
+use Rattle.task_state.proofs.Ended.{without-shaped, without-sound}
+use Rattle.dispatch.specs.declared.Record.{Record}
+use Rattle.dispatch.specs.Record.{lineAt, stateAt}
+use Rattle.dispatch.specs.Refusals.{lookNo, releaseNo, finishNo}
+use Rattle.dispatch.specs.Release.{releaseOf}
+use Rattle.dispatch.specs.Finish.{finishOf}
+use Rattle.dispatch.specs.Look.{lookOf}
+use Rattle.dispatch.specs.Shape.{Good}
+use Rattle.dispatch.proofs.Records.{task-lined, task-wide, task-shaped, task-sound, moved-good, timed-good}
+use Rattle.dispatch.proofs.Passed.{release-passed, finish-passed, look-passed}
+use Rattle.dispatch.proofs.Answers.{release-refused, finish-refused, look-refused, release-taken, finish-taken, look-taken}
+
+module _ (r : Record) (i t : ℕ) (g : Good r) where
+  -- a release
+  pub release-good : Good (releaseOf r i t .next)
+  release-good = go (ℕ-discrete (releaseNo r i t) 0)
+    where
+      go : Dec (releaseNo r i t ≡ 0) → Good (releaseOf r i t .next)
+      go (no n) = subst Good (sym (release-refused r i t n)) g
+      go (yes e) =
+          let p = release-passed r i t e in
+          let ln = lineAt r (i - 1) in
+          let st = stateAt r (i - 1) in
+          let h : i - 1 < r .plan .count = omega (arith, p .0 .from, p .0 .to) in
+          let l = task-lined r g (i - 1) h in
+          let wide = task-wide r g (i - 1) h in
+          let sh = task-shaped r g (i - 1) h in
+          let s = task-sound r g (i - 1) h in
+          let f = facts ln st s in
+          let turn = turnable ln st f (l .small) (l .shares) in
+          subst Good (sym (release-taken r i t e))
+          (moved-good r g (i - 1) h (withRun ln st t) t (p .0 .limit)
+          (with-shaped ln st t wide sh turn)
+          (with-sound ln st t wide sh turn (has-room ln st t (p .1) (f .few)) (p .0 .limit) s))
+
+  -- a finish
+  pub finish-good : Good (finishOf r i t .next)
+  finish-good = go (ℕ-discrete (finishNo r i t) 0)
+    where
+      go : Dec (finishNo r i t ≡ 0) → Good (finishOf r i t .next)
+      go (no n) = subst Good (sym (finish-refused r i t n)) g
+      go (yes e) =
+          let p = finish-passed r i t e in
+          let h : i - 1 < r .plan .count = omega (arith, p .0 .from, p .0 .to) in
+          let sh = task-shaped r g (i - 1) h in
+          let s = task-sound r g (i - 1) h in
+          subst Good (sym (finish-taken r i t e))
+          (moved-good r g (i - 1) h (withoutRun (stateAt r (i - 1))) t (p .0 .limit)
+          (without-shaped (stateAt r (i - 1)) sh)
+          (without-sound (lineAt r (i - 1)) (stateAt r (i - 1)) sh s))
+
+  -- a look at core i
+  pub look-good : Good (lookOf r i t .next)
+  look-good = go (ℕ-discrete (lookNo r i t) 0)
+    where
+      go : Dec (lookNo r i t ≡ 0) → Good (lookOf r i t .next)
+      go (no n) = subst Good (sym (look-refused r i t n)) g
+      go (yes e) = subst Good (sym (look-taken r i t e)) (timed-good r g t (look-passed r i t e .limit))

@@ -1,0 +1,57 @@
+-- A good record is never refused as unsound, after any calls.
+use Prim.Native.Nat.{ℕ, _-_}
+use mathlib.Core.Path.{_≡_, sym, _∙_}
+use mathlib.Core.Bool.{Bool, true, false, cond}
+use mathlib.Core.List.{List}
+use native.Mathlib.Omega.{arith}
+use lib.Dec.{ltb, eqb}
+use Rattle.units.specs.Limits.{clockLimit, runsLimit}
+use Rattle.task_state.specs.Own.{early, releaseOwn, finishOwn}
+use Rattle.dispatch.specs.declared.Record.{Record}
+use Rattle.dispatch.specs.Record.{lineAt, stateAt}
+use Rattle.dispatch.specs.Refusals.{outside, timeNo, taskNo, lookNo, releaseNo, finishNo}
+use Rattle.dispatch.specs.Shape.{Good}
+use Rattle.dispatch.specs.Calls.{Call, release, finish, look, refusalOf, after}
+use Rattle.dispatch.proofs.Answers.{release-answer, finish-answer, look-answer}
+use Rattle.dispatch.proofs.Always.{always-good}
+
+-- a refusal is not 15, if neither of two is
+neither : (a : Bool) (m n : ℕ) → (m ≡ 15 → ⊥) → (n ≡ 15 → ⊥) → cond a m n ≡ 15 → ⊥
+neither true m n h k e = h e
+neither false m n h k e = k e
+
+module _ (r : Record) (g : Good r) where
+  -- not where the number and the time are tested
+  number-15 : (n m i t : ℕ) → (m ≡ 15 → ⊥) → cond (outside n i) m (timeNo (r .clock .0) t) ≡ 15 → ⊥
+  number-15 n m i t h =
+      neither (outside n i) m (timeNo (r .clock .0) t) h
+      (neither (ltb clockLimit t) 12 (cond (ltb t (r .clock .0)) 8 0) (λ e. omega arith)
+      (neither (ltb t (r .clock .0)) 8 0 (λ e. omega arith) (λ e. omega arith)))
+
+  -- so not where every call for a task begins
+  task-15 : (i t : ℕ) → taskNo r i t ≡ 15 → ⊥
+  unfolding taskNo
+  task-15 i t = rw (g .sound) (number-15 (r .plan .count) 7 i t (λ e. omega arith))
+
+  -- none is given for a good record
+  good-15 : (c : Call) → refusalOf r c ≡ 15 → ⊥
+  unfolding releaseNo finishNo lookNo
+  good-15 (release i t) e =
+      let st = stateAt r (i - 1) in
+      let full : ℕ = cond (eqb (st .live) runsLimit) 10 0 in
+      neither (eqb (taskNo r i t) 0) (releaseOwn (lineAt r (i - 1)) st t) (taskNo r i t)
+      (neither (early (lineAt r (i - 1)) st t) 9 full (λ e. omega arith) (neither (eqb (st .live) runsLimit) 10 0 (λ e. omega arith) (λ e. omega arith)))
+      (task-15 i t)
+      (sym (release-answer r i t) ∙ e)
+  good-15 (finish i t) e =
+      let st = stateAt r (i - 1) in
+      neither (eqb (taskNo r i t) 0) (finishOwn st) (taskNo r i t)
+      (neither (eqb (st .live) 0) 11 0 (λ e. omega arith) (λ e. omega arith))
+      (task-15 i t)
+      (sym (finish-answer r i t) ∙ e)
+  good-15 (look k t) e =
+      number-15 (r .plan .cores) 13 k t (λ e. omega arith) (rw (g .sound) at (sym (look-answer r k t) ∙ e))
+
+-- 15 is never given
+pub never-15 : (r : Record) (cs : List Call) (c : Call) → Good r → refusalOf (after r cs) c ≡ 15 → ⊥
+never-15 r cs c g = good-15 (after r cs) (always-good r cs g) c

@@ -1,3 +1,0 @@
-pub mod Shape
-pub mod Calls
-pub mod Choice

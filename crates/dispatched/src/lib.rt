@@ -1,1 +1,0 @@
-// What calls on a record keep, over any calls: all of it stands in proofs/.

@@ -1,6 +1,0 @@
-pub mod Behind
-pub mod Pace
-pub mod Cycle
-pub mod Fair
-pub mod Keeps
-pub mod Turns

@@ -1,1 +1,0 @@
-// Runs are spread fairly: all of it stands in proofs/.

@@ -1,0 +1,30 @@
+-- `program::put_unreadable` meets its contract.
+use Rattle.writing.proofs.Wrote.{then}
+use Rattle.plan_answer.specs.Program.{unreadableText}
+use borrow.Author.Needs.{needs}
+use Rattle.plan_answer.proofs.put_unreadable.Statement.{statement}
+use Rattle.plan_answer.proofs.put_unreadable.Tie as tie
+
+slice-aggregate-put-field : tie.Need-slice-aggregate-put-field
+slice-aggregate-put-field c = search needs
+
+put-field-requires : tie.Need-put-field-requires
+put-field-requires c κs = search needs
+
+put-byte-requires : tie.Need-put-byte-requires
+put-byte-requires c κs = search needs
+
+same-length : tie.Need-same-length
+same-length c = search needs
+
+returns : tie.Need-returns
+unfolding unreadableText
+returns c =
+    let p2 = c .before .before in
+    let p1 = p2 .before .before .before .before in
+    (then (p1 .put-field .ensures .0) (p2 .put-byte .ensures), search needs)
+
+pub put-unreadable-spec : {M : Type 1} → statement M
+put-unreadable-spec =
+    tie.close
+    (tie.spec slice-aggregate-put-field put-field-requires put-byte-requires same-length returns)

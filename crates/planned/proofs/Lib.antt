@@ -1,4 +1,0 @@
-pub mod Lines
-pub mod Keeps
-pub mod Taken
-pub mod Sound

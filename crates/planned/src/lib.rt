@@ -1,1 +1,0 @@
-// What a plan that planning draws keeps: theorems in proofs/.

@@ -1,0 +1,55 @@
+-- `trial::made::state_at` meets its contract.
+use Prim.Native.Nat.{_-_, _≤_}
+use Rattle.spoilt_records.specs.Limits.{stateNumbers}
+use borrow.Author.Needs.{needs}
+use Rattle.spoilt_records.proofs.made.state_at.Statement.{statement}
+use Rattle.spoilt_records.proofs.made.state_at.Tie as tie
+
+abbrev Inv-loop : tie.InvT-loop
+Inv-loop bytes from state₀ k₀ state k = k ≤ stateNumbers
+
+abbrev μ-loop : tie.MeasureT-loop
+μ-loop bytes from state₀ k₀ state k = stateNumbers - k
+
+loop-holds : tie.Need-loop-holds Inv-loop μ-loop
+loop-holds c = search needs
+
+mul-number-at : tie.Need-mul-number-at Inv-loop μ-loop
+mul-number-at c = search needs
+
+add-number-at : tie.Need-add-number-at Inv-loop μ-loop
+add-number-at c = search needs
+
+number-at-requires : tie.Need-number-at-requires Inv-loop μ-loop
+number-at-requires c κs = search needs
+
+state-with-requires : tie.Need-state-with-requires Inv-loop μ-loop
+state-with-requires c κs = search needs
+
+add-k : tie.Need-add-k Inv-loop μ-loop
+add-k c = search needs
+
+loop-less : tie.Need-loop-less Inv-loop μ-loop
+loop-less c = search needs
+
+loop-again : tie.Need-loop-again Inv-loop μ-loop
+loop-again c = search needs
+
+returns : tie.Need-returns Inv-loop μ-loop
+returns c = search needs
+
+pub state-at-spec : {M : Type 1} → statement M
+state-at-spec =
+    tie.close
+    (tie.spec
+    Inv-loop
+    μ-loop
+    loop-holds
+    mul-number-at
+    add-number-at
+    number-at-requires
+    state-with-requires
+    add-k
+    loop-less
+    loop-again
+    returns)

@@ -1,0 +1,56 @@
+-- `trial::sum::runs_sum` meets its contract.
+use Prim.Native.Nat.{_-_, _<_, _≤_}
+use Rattle.units.specs.Limits.{runsLimit}
+use Rattle.spoilt_records.specs.Limits.{sumLimit}
+use borrow.Author.Needs.{needs}
+use Rattle.spoilt_records.proofs.sum.runs_sum.Statement.{statement}
+use Rattle.spoilt_records.proofs.sum.runs_sum.Tie as tie
+
+abbrev Inv-loop : tie.InvT-loop
+Inv-loop h runs sum₀ k₀ sum k = (k ≤ runsLimit) × (sum < sumLimit)
+
+abbrev μ-loop : tie.MeasureT-loop
+μ-loop h runs sum₀ k₀ sum k = runsLimit - k
+
+loop-holds : tie.Need-loop-holds Inv-loop μ-loop
+loop-holds c = search needs
+
+mul-run : tie.Need-mul-run Inv-loop μ-loop
+mul-run c = search needs
+
+array-copy-out-run : tie.Need-array-copy-out-run Inv-loop μ-loop
+array-copy-out-run c = search needs
+
+sum-with-requires : tie.Need-sum-with-requires Inv-loop μ-loop
+sum-with-requires c κs = search needs
+
+sum-with-requires-2 : tie.Need-sum-with-requires-2 Inv-loop μ-loop
+sum-with-requires-2 c κs = search needs
+
+add-k : tie.Need-add-k Inv-loop μ-loop
+add-k c = search needs
+
+loop-less : tie.Need-loop-less Inv-loop μ-loop
+loop-less c = search needs
+
+loop-again : tie.Need-loop-again Inv-loop μ-loop
+loop-again c = search needs
+
+returns : tie.Need-returns Inv-loop μ-loop
+returns c = search needs
+
+pub runs-sum-spec : {M : Type 1} → statement M
+runs-sum-spec =
+    tie.close
+    (tie.spec
+    Inv-loop
+    μ-loop
+    loop-holds
+    mul-run
+    array-copy-out-run
+    sum-with-requires
+    sum-with-requires-2
+    add-k
+    loop-less
+    loop-again
+    returns)

@@ -1,0 +1,86 @@
+// A number of a task's line or state changed, in the order in which the input has them.
+use crate::numbers::low_half;
+use planning::Line;
+use task_state::Run;
+use task_state::State;
+use units::limits::CORES;
+use units::share::Share;
+use units::ticks::Ticks;
+ghost use Prim.Native.Nat.{_<_};
+ghost use Rattle.spoilt_records.specs.Limits.{lineNumbers, stateNumbers};
+
+// The numbers of a line: cost, period, weight, a share a core.
+pub const LINE: usize = 19;
+// The numbers of a state: a count a core, place, last release, flag, a core and a deadline a run, unfinished runs.
+pub const STATE: usize = 36;
+
+// A line with its k-th number, from 0, changed.
+pub fn line_with(line: Line, k: usize, value: u64) -> Line
+    requires { ⌜ k < lineNumbers ⌝ }
+{
+    let mut next = line;
+    let ticks = Ticks(value);
+    let share = Share(low_half(value));
+    if k == 0 {
+        next.cost = ticks;
+        return next;
+    }
+    if k == 1 {
+        next.period = ticks;
+        return next;
+    }
+    if k == 2 {
+        next.weight = share;
+        return next;
+    }
+    let at = k - 3;
+    next.shares[at] = share;
+    next
+}
+
+// A run with its core or its deadline changed.
+fn run_with(run: Run, core: bool, value: u64) -> Run {
+    let mut next = run;
+    if core {
+        next.core = value as usize;
+        return next;
+    }
+    let ticks = Ticks(value);
+    next.deadline = ticks;
+    next
+}
+
+// A state with its k-th number, from 0, changed.
+pub fn state_with(state: State, k: usize, value: u64) -> State
+    requires { ⌜ k < stateNumbers ⌝ }
+{
+    let mut next = state;
+    let half = low_half(value);
+    if k < CORES {
+        next.counts[k] = half;
+        return next;
+    }
+    if k == 16 {
+        next.place = half;
+        return next;
+    }
+    if k == 17 {
+        let ticks = Ticks(value);
+        next.last = ticks;
+        return next;
+    }
+    if k == 18 {
+        next.had = value != 0;
+        return next;
+    }
+    if k == 35 {
+        next.live = value as usize;
+        return next;
+    }
+    let from = k - 19;
+    let at = from / 2;
+    let run = next.runs[at];
+    let after = run_with(run, from % 2 == 0, value);
+    next.runs[at] = after;
+    next
+}

@@ -1,4 +1,0 @@
-pub mod Put
-pub mod Added
-pub mod Counted
-pub mod Wide

@@ -1,0 +1,83 @@
+-- What the soundness of a task's state says, as facts.
+use Prim.Native.Nat.{ℕ, _+_, _≤_, _<_}
+use mathlib.Core.Path.{_≡_}
+use mathlib.Core.Bool.{true, _&&_, _||_}
+use native.Mathlib.Omega.{arith}
+use borrow.Author.Tests.{leb-true, le-leb, ltb-true, ltb-false, lt-ltb, le-ltb, eqb-true, eq-eqb}
+use lib.Dec.{ltb, leb, eqb}
+use Rattle.units.specs.Limits.{clockLimit, commonLimit, runsLimit}
+use Rattle.lists.specs.Lists.{sum}
+use Rattle.lists.specs.Below.{allBelow}
+use Rattle.lists.proofs.Tests.{by-cases, and-left, and-right}
+use Rattle.lists.proofs.Below.{all-at, all-from}
+use Rattle.planning.specs.declared.Line.{Line}
+use Rattle.planning.specs.Plan.{rowOf}
+use Rattle.turn.specs.Turn.{Turnable}
+use Rattle.task_state.specs.declared.State.{State}
+use Rattle.task_state.specs.State.{runAt}
+use Rattle.task_state.specs.Sound.{runEmpty, runRule, runsSound, turnSound, lastSound, stateSound}
+use Rattle.task_state.specs.Key.{deadlineOf}
+use Rattle.task_state.proofs.RunFacts.{RunFacts, run-facts}
+
+pub record Facts (ln : Line) (st : State) : Type 0 where
+  pub few : st .live ≤ runsLimit
+  pub rules : (k : ℕ) → k < runsLimit → runRule ln st k ≡ true
+  pub counts : sum (st .counts) ≡ st .place
+  pub below : st .place < ln .weight .0
+  pub last : st .last .0 ≤ clockLimit
+  pub had : (st .had || eqb (st .last .0) 0) ≡ true
+
+module _ (ln : Line) (st : State) where
+  -- soundness says them
+  pub facts : stateSound ln st ≡ true → Facts ln st
+  facts e =
+      let rules = allBelow runsLimit (λ k. runRule ln st k) in
+      let some = and-left (runsSound ln st && turnSound ln st) (lastSound st) e in
+      let runs = and-left (runsSound ln st) (turnSound ln st) some in
+      let turn = and-right (runsSound ln st) (turnSound ln st) some in
+      let last = and-right (runsSound ln st && turnSound ln st) (lastSound st) e in
+      let summed = eqb (sum (st .counts)) (st .place) in
+      let below = ltb (st .place) (ln .weight .0) in
+      let within = leb (st .last .0) clockLimit in
+      let had = st .had || eqb (st .last .0) 0 in
+      record {
+        few = leb-true (st .live) runsLimit (and-left (leb (st .live) runsLimit) rules runs);
+        rules = λ k l. all-at runsLimit k (λ j. runRule ln st j) l (and-right (leb (st .live) runsLimit) rules runs);
+        counts = eqb-true (sum (st .counts)) (st .place) (and-left summed below turn);
+        below = ltb-true (st .place) (ln .weight .0) (and-right summed below turn);
+        last = leb-true (st .last .0) clockLimit (and-left within had last);
+        had = and-right within had last;
+      }
+
+  -- and they say it
+  pub from-facts : Facts ln st → stateSound ln st ≡ true
+  from-facts f =
+      rw (
+        le-leb (st .live) runsLimit (f .few),
+        all-from runsLimit (λ k. runRule ln st k) (f .rules),
+        eq-eqb (sum (st .counts)) (st .place) (f .counts),
+        lt-ltb (st .place) (ln .weight .0) (f .below),
+        le-leb (st .last .0) clockLimit (f .last),
+      ) (f .had)
+
+module _ (ln : Line) (st : State) (f : Facts ln st) where
+  -- an unfinished run
+  pub unfinished : (k : ℕ) → k < st .live → RunFacts ln (runAt st k)
+  unfinished k l = run-facts ln (runAt st k) (rw (lt-ltb k (st .live) l) at (f .rules k (omega (arith, f .few))))
+
+  -- and what stands past them
+  pub past : (k : ℕ) → st .live ≤ k → k < runsLimit → runEmpty (runAt st k) ≡ true
+  past k h l = rw (le-ltb k (st .live) h) at (f .rules k l)
+
+  -- the oldest run's deadline, 0 where there is none
+  pub oldest-due : deadlineOf st ≤ clockLimit + ln .period .0
+  oldest-due =
+      by-cases (ltb 0 (st .live))
+      (λ e. unfinished 0 (ltb-true 0 (st .live) e) .due)
+      (λ e.
+      let z = and-right (eqb (runAt st 0 .core) 0) (eqb (deadlineOf st) 0) (past 0 (ltb-false 0 (st .live) e) (omega arith)) in
+      omega (arith, eqb-true (deadlineOf st) 0 z))
+
+  -- the turn step can be asked for, if the shares sum to the weight
+  pub turnable : ln .weight .0 ≤ commonLimit → sum (rowOf ln) ≡ ln .weight .0 → Turnable (ln .weight .0) (st .place) (rowOf ln) (st .counts)
+  turnable h e = record { small = h; below = f .below; shares = e; counts = f .counts }

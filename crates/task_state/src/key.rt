@@ -1,0 +1,39 @@
+// Who goes first on a core.
+use crate::State;
+use assignment::rows::first_core;
+use assignment::rows::parts_of;
+use planning::Line;
+ghost use mathlib.Core.Path.{_≡_};
+ghost use Prim.Native.Nat.{_+_, _<_, _≤_};
+ghost use Rattle.units.specs.Limits.{coresLimit, clockLimit, periodLimit};
+ghost use Rattle.task_state.specs.Key.{deadlineOf, waits as waitsOn, keyOf};
+
+impl State {
+    // Its oldest unfinished run is on this core, from 1.
+    pub fn waits(self, core: usize) -> bool
+        ensures { λ r. ⌜ r ≡ waitsOn self core ⌝ }
+    {
+        let run = self.runs[0];
+        (0 < self.live) & (run.core == core)
+    }
+
+    // The least key goes first: an upper mover, then a lower one, then fixed tasks by earliest deadline.
+    pub fn key(self, line: Line, core: usize) -> u64
+        requires { ⌜ (0 < core) × (core ≤ coresLimit) × (deadlineOf self ≤ clockLimit + periodLimit) ⌝ }
+        ensures { λ r. ⌜ r ≡ keyOf line self core ⌝ }
+    {
+        let shares = line.shares;
+        let run = self.runs[0];
+        let at = core - 1;
+        let s = shares[at];
+        let moves = (1 < parts_of(shares)) & (0 < s.0);
+        let lowest = first_core(shares) == at;
+        if moves & !lowest {
+            return 0;
+        }
+        if moves & lowest {
+            return 1;
+        }
+        2 + run.deadline.0
+    }
+}

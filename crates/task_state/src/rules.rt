@@ -1,0 +1,128 @@
+// The rules of soundness for one task's state.
+use crate::Run;
+use crate::State;
+use planning::Line;
+use units::limits::CLOCK;
+use units::limits::CORES;
+use units::limits::RUNS;
+use units::share::Share;
+ghost use mathlib.Core.Path.{_≡_};
+ghost use mathlib.Core.Bool.{true, cond, _&&_};
+ghost use Prim.Native.Nat.{_≤_, _<_};
+ghost use lib.Dec.{ltb, leb, eqb};
+ghost use Rattle.units.specs.Limits.{coresLimit, periodLimit};
+ghost use Rattle.lists.specs.Lists.{sum};
+ghost use Rattle.task_state.specs.Sound.{runEmpty, runsSound, lastSound, stateSound, runsEmpty, stateEmpty};
+
+// A count in the width of their sum: the proof knows the bound of a parameter, not of an array's element.
+fn wide(count: u32) -> u64
+    ensures { λ r. ⌜ (r ≡ count) × (r < 4294967296) ⌝ }
+{
+    count as u64
+}
+
+// The turn counts sum to this number.
+fn sums_to(counts: [u32; CORES], total: u32) -> bool
+    ensures { λ r. ⌜ r ≡ eqb (sum counts) total ⌝ }
+{
+    let mut all: u64 = 0;
+    let mut p: usize = 0;
+    while p < CORES {
+        let n = counts[p];
+        all += wide(n);
+        p += 1;
+    }
+    all == total as u64
+}
+
+impl Run {
+    // Its core is from 1 to 16.
+    fn placed(self) -> bool
+        ensures { λ r. ⌜ r ≡ (ltb 0 (self .core) && leb (self .core) coresLimit) ⌝ }
+    {
+        (0 < self.core) & (self.core <= CORES)
+    }
+
+    // Its task has a share on its core, and its deadline is at most the latest.
+    fn sound(self, share: Share, latest: u64) -> bool
+        ensures { λ r. ⌜ r ≡ (ltb 0 (share .0) && leb (self .deadline .0) latest) ⌝ }
+    {
+        (0 < share.0) & (self.deadline.0 <= latest)
+    }
+
+    // All numbers are 0.
+    fn empty(self) -> bool
+        ensures { λ r. ⌜ r ≡ runEmpty self ⌝ }
+    {
+        (self.core == 0) & (self.deadline.0 == 0)
+    }
+}
+
+impl State {
+    // A task has 0 to 8 unfinished runs, each sound; past them all is 0.
+    fn runs_sound(self, line: Line) -> bool
+        requires { ⌜ line .period .0 ≤ periodLimit ⌝ }
+        ensures { λ r. ⌜ r ≡ runsSound line self ⌝ }
+    {
+        if RUNS < self.live {
+            return false;
+        }
+        let shares = line.shares;
+        let latest = CLOCK + line.period.0;
+        let mut k: usize = 0;
+        while k < RUNS {
+            let run = self.runs[k];
+            if k < self.live {
+                if !run.placed() {
+                    return false;
+                }
+                let at = run.core - 1;
+                let share = shares[at];
+                if !run.sound(share, latest) {
+                    return false;
+                }
+            } else if !run.empty() {
+                return false;
+            }
+            k += 1;
+        }
+        true
+    }
+
+    // A last release is within the clock's range, and 0 where there was none.
+    fn last_sound(self) -> bool
+        ensures { λ r. ⌜ r ≡ lastSound self ⌝ }
+    {
+        (self.last.0 <= CLOCK) & (self.had | (self.last.0 == 0))
+    }
+
+    // No run stands.
+    fn runs_empty(self) -> bool
+        ensures { λ r. ⌜ r ≡ runsEmpty self ⌝ }
+    {
+        let mut k: usize = 0;
+        while k < RUNS {
+            let run = self.runs[k];
+            if !run.empty() {
+                return false;
+            }
+            k += 1;
+        }
+        true
+    }
+
+    // A task in use is sound, another is empty: both ask what the counts sum to, which is quicker before any branch.
+    pub fn ok(self, used: bool, line: Line) -> bool
+        requires { ⌜ (used ≡ true → line .period .0 ≤ periodLimit) ⌝ }
+        ensures { λ r. ⌜ r ≡ cond used (stateSound line self) (stateEmpty self) ⌝ }
+    {
+        let counts = self.counts;
+        if !sums_to(counts, self.place) {
+            return false;
+        }
+        if used {
+            return (self.place < line.weight.0) & self.last_sound() & self.runs_sound(line);
+        }
+        (self.place == 0) & (self.last.0 == 0) & !self.had & (self.live == 0) & self.runs_empty()
+    }
+}

@@ -1,0 +1,21 @@
+-- A task's runs counted from a fresh plan: the core of each is a function of the task's shares and of its number alone.
+use Prim.Native.Nat.{ℕ, zero, suc, _+_}
+use mathlib.Core.List.{List}
+use lib.Dec.{eqb}
+use Rattle.lists.specs.Lists.{bit}
+use Rattle.turn.specs.declared.Turn.{Turn}
+use Rattle.turn.specs.Turn.{fresh, nextTurn}
+
+-- counts and place after c accepted runs
+unfoldable pub after : ℕ → List ℕ → ℕ → Turn
+after w ss zero = fresh
+after w ss (suc c) = nextTurn w ss (after w ss c)
+
+-- the core of run number c, counted from 0
+unfoldable pub coreOfRun : ℕ → List ℕ → ℕ → ℕ
+coreOfRun w ss c = after w ss (suc c) .core
+
+-- how many of the first c runs go to core p, counted from 1
+unfoldable pub sent : ℕ → List ℕ → ℕ → ℕ → ℕ
+sent w ss p zero = 0
+sent w ss p (suc c) = sent w ss p c + bit (eqb (coreOfRun w ss c) p)

@@ -1,4 +1,0 @@
-pub mod Digits
-pub mod Shares
-pub mod Line
-pub mod Listing

@@ -1,1 +1,0 @@
-// What is written can be read: a listing determines its plan. Theorems in proofs/.
