@@ -9,7 +9,7 @@ use lib.Dec.{ltb, eqb}
 use lib.ListN.{length, getD}
 use borrow.Author.Tests.{eq-eqb, ne-eqb, lt-ltb, le-ltb}
 use Rattle.units.specs.Limits.{coresLimit, commonLimit}
-use Rattle.lists.specs.Lists.{sum}
+use Rattle.lists.specs.Lists.{total}
 use Rattle.arith.specs.Period.{periods, common, periodOf}
 use Rattle.arith.specs.declared.period.Period.the-variants.{Common, Over}
 use Rattle.arith.proofs.Table.{periods-at, periods-length}
@@ -19,25 +19,25 @@ use Rattle.admission.specs.declared.refusals.Refusal.{Refusal}
 use Rattle.admission.specs.declared.admit.Admission.{Admission}
 use Rattle.admission.specs.Weight.{weights, Weighable}
 use Rattle.admission.specs.Refusals.{refusal, taken, _orElse_, inputTest, weightsTest}
-use Rattle.admission.specs.Admission.{periodTest, refusalOf, refusedWith, takenWith, admissionOf}
+use Rattle.admission.specs.Admission.{periodTest, planRefusal, refusedWith, takenWith, admissionOf}
 use Rattle.admission.proofs.First.{decides, leaves}
 use Rattle.admission.proofs.Kept.{Kept, Fine, kept, neither}
 
 -- a refusal is answered with it
-pub answered : (m : ℕ) (xs : List ℕ) (f : Refusal) → f ≡ refusalOf m xs → (f .no ≡ 0 → ⊥) → refusedWith f ≡ admissionOf m xs
+pub answered : (m : ℕ) (xs : List ℕ) (f : Refusal) → f ≡ planRefusal m xs → (f .no ≡ 0 → ⊥) → refusedWith f ≡ admissionOf m xs
 unfolding admissionOf
 answered m xs f e n =
-    sym (rw (ne-eqb (refusalOf m xs .no) 0 (λ q. n (ap (λ (r : Refusal). r .no) e ∙ q))) (ap refusedWith (sym e)))
+    sym (rw (ne-eqb (planRefusal m xs .no) 0 (λ q. n (ap (λ (r : Refusal). r .no) e ∙ q))) (ap refusedWith (sym e)))
 
 -- of tests 1 to 4
-pub input-decides : (m : ℕ) (xs : List ℕ) (f : Refusal) → f ≡ inputTest m xs → (f .no ≡ 0 → ⊥) → f ≡ refusalOf m xs
-unfolding refusalOf
+pub input-decides : (m : ℕ) (xs : List ℕ) (f : Refusal) → f ≡ inputTest m xs → (f .no ≡ 0 → ⊥) → f ≡ planRefusal m xs
+unfolding planRefusal
 input-decides m xs f e n = decides f (inputTest m xs) (periodTest (periodOf (periods xs)) orElse weightsTest m (common (periods xs)) (weights (common (periods xs)) xs)) e n
 
 -- a table that is taken passes all tests
-pub passed : (m : ℕ) (xs : List ℕ) → refusalOf m xs .no ≡ 0
+pub passed : (m : ℕ) (xs : List ℕ) → planRefusal m xs .no ≡ 0
     → (inputTest m xs .no ≡ 0) × (periodTest (periodOf (periods xs)) .no ≡ 0) × (weightsTest m (common (periods xs)) (weights (common (periods xs)) xs) .no ≡ 0)
-unfolding refusalOf
+unfolding planRefusal
 passed m xs e =
     let one = neither (inputTest m xs) (periodTest (periodOf (periods xs)) orElse weightsTest m (common (periods xs)) (weights (common (periods xs)) xs)) e in
     let two = neither (periodTest (periodOf (periods xs))) (weightsTest m (common (periods xs)) (weights (common (periods xs)) xs)) (one .1) in
@@ -45,8 +45,8 @@ passed m xs e =
 
 module _ (m : ℕ) (xs : List ℕ) (ok : inputTest m xs .no ≡ 0) where
   -- 5, naming the task
-  pub over : (k : ℕ) → periodOf (periods xs) ≡ Over k → refusal 5 k ≡ refusalOf m xs
-  unfolding refusalOf
+  pub over : (k : ℕ) → periodOf (periods xs) ≡ Over k → refusal 5 k ≡ planRefusal m xs
+  unfolding planRefusal
   over k e =
       leaves (inputTest m xs) (inputTest m xs) (refusal 5 k) (periodTest (periodOf (periods xs)) orElse weightsTest m (common (periods xs)) (weights (common (periods xs)) xs)) refl ok
       (decides (refusal 5 k) (periodTest (periodOf (periods xs))) (weightsTest m (common (periods xs)) (weights (common (periods xs)) xs)) (rw e) (λ z. omega arith))
@@ -56,23 +56,23 @@ module _ (m : ℕ) (xs : List ℕ) (ok : inputTest m xs .no ≡ 0) where
     is = period-common (periods xs) l e .0
 
     -- then the sum decides
-    pub sum-decides : refusalOf m xs ≡ weightsTest m l (weights l xs)
-    unfolding refusalOf
+    pub sum-decides : planRefusal m xs ≡ weightsTest m l (weights l xs)
+    unfolding planRefusal
     sum-decides =
         sym (leaves (inputTest m xs) (inputTest m xs) (weightsTest m l (weights l xs)) (periodTest (periodOf (periods xs)) orElse weightsTest m (common (periods xs)) (weights (common (periods xs)) xs)) refl ok
         (leaves taken (periodTest (periodOf (periods xs))) (weightsTest m l (weights l xs)) (weightsTest m (common (periods xs)) (weights (common (periods xs)) xs)) (rw e) refl
         (ap (λ (n : ℕ). weightsTest m n (weights n xs)) is)))
 
     -- 6
-    pub heavy : m * l < sum (weights l xs) → refusal 6 0 ≡ refusalOf m xs
-    heavy h = sym (sum-decides ∙ (rw (lt-ltb (m * l) (sum (weights l xs)) h)))
+    pub heavy : m * l < total (weights l xs) → refusal 6 0 ≡ planRefusal m xs
+    heavy h = sym (sum-decides ∙ (rw (lt-ltb (m * l) (total (weights l xs)) h)))
 
     -- taken
-    pub light : sum (weights l xs) ≤ m * l → takenWith l (weights l xs) ≡ admissionOf m xs
+    pub light : total (weights l xs) ≤ m * l → takenWith l (weights l xs) ≡ admissionOf m xs
     unfolding admissionOf
     light h =
-        let none : refusalOf m xs ≡ taken = sum-decides ∙ (rw (le-ltb (m * l) (sum (weights l xs)) h)) in
-        rw (eq-eqb (refusalOf m xs .no) 0 (ap (λ (r : Refusal). r .no) none)) (ap (λ (n : ℕ). takenWith n (weights n xs)) is)
+        let none : planRefusal m xs ≡ taken = sum-decides ∙ (rw (le-ltb (m * l) (total (weights l xs)) h)) in
+        rw (eq-eqb (planRefusal m xs .no) 0 (ap (λ (r : Refusal). r .no) none)) (ap (λ (n : ℕ). takenWith n (weights n xs)) is)
 
     -- what the weights are worked out from
     pub weighable : Weighable l xs

@@ -9,7 +9,7 @@ use lib.Dec.{ltb, eqb}
 use lib.ListN.{length}
 use borrow.Author.Tests.{eqb-true, eqb-false, ltb-true, ltb-false}
 use Rattle.units.specs.Limits.{coresLimit, tasksLimit, periodLimit}
-use Rattle.lists.specs.Lists.{sum}
+use Rattle.lists.specs.Lists.{total}
 use Rattle.lists.proofs.Tests.{by-cases}
 use Rattle.arith.specs.Period.{periods, periodOf}
 use Rattle.arith.specs.declared.period.Period.{Period}
@@ -99,7 +99,7 @@ module _ (m : ℕ) (xs : List ℕ) where
           let q = period-common (periods xs) l e in
           ⊎-elim (λ h. (6, 0, six t (omega arith) h))
           (λ h. (0, 0, none (record { cores = t .cores; table = t .table; ranges = t .ranges; costs = t .costs; within = omega arith; fit = h })))
-          (above-or (m * commonOf xs) (sum (weightsOf xs)))
+          (above-or (m * commonOf xs) (total (weightsOf xs)))
 
   -- tested in order
   pub applies : Some m xs

@@ -4,14 +4,14 @@ use mathlib.Core.Path.{_≡_, refl, sym, ap, _∙_}
 use mathlib.Core.List.{List}
 use native.Mathlib.Omega.{arith}
 use borrow.Author.Tests.{le-ltb}
-use Rattle.lists.specs.Lists.{sum}
+use Rattle.lists.specs.Lists.{total}
 use Rattle.arith.specs.Period.{periods, periodOf}
 use Rattle.arith.specs.declared.period.Period.the-variants.{Common}
 use Rattle.arith.proofs.Common.{Each}
 use Rattle.arith.proofs.Table.{periods-at, periods-length}
 use Rattle.arith.proofs.Within.{over-period, common-period}
 use Rattle.admission.specs.Refusals.{refusal, taken, _orElse_, coresTest, tableTest, tasksTest, inputTest}
-use Rattle.admission.specs.Admission.{refusalOf}
+use Rattle.admission.specs.Admission.{planRefusal}
 use Rattle.admission.proofs.First.{decides, leaves}
 use Rattle.admission.proofs.Admitting.{input-decides, over, heavy, sum-decides}
 use Rattle.admission.specs.declared.refusals.Refusal.{Refusal}
@@ -44,7 +44,7 @@ module _ (m : ℕ) (xs : List ℕ) where
       (decides (refusal 2 0) (tableTest xs) (tasksTest 1 xs) (sym (table-out xs o)) (λ z. omega arith))
 
   -- a task that tests 1 and 2 reach
-  input-task : (k : ℕ) → Reached m xs k → (f : Refusal) → tasksTest 1 xs ≡ f → (f .no ≡ 0 → ⊥) → refusalOf m xs ≡ f
+  input-task : (k : ℕ) → Reached m xs k → (f : Refusal) → tasksTest 1 xs ≡ f → (f .no ≡ 0 → ⊥) → planRefusal m xs ≡ f
   input-task k r f e n = sym (input-decides m xs f (input-tasks (r .cores) (r .table) f e) n)
 
   -- tests 1 to 4 passed
@@ -60,10 +60,10 @@ module _ (m : ℕ) (xs : List ℕ) where
   tested t = record { cores = t .cores; table = t .table; ranges = t .ranges; costs = t .costs }
 
   -- each row's refusal
-  pub gives : {n i : ℕ} → Given m xs n i → refusalOf m xs ≡ refusal n i
+  pub gives : {n i : ℕ} → Given m xs n i → planRefusal m xs ≡ refusal n i
   gives (none t) =
       sum-decides m xs (passed (tested t)) (commonOf xs) (within (tested t) (t .within))
-      ∙ rw (le-ltb (m * commonOf xs) (sum (weightsOf xs)) (t .fit))
+      ∙ rw (le-ltb (m * commonOf xs) (total (weightsOf xs)) (t .fit))
   gives (one o) = sym (input-decides m xs (refusal 1 0) (input-one o) (λ z. omega arith))
   gives (two c o) = sym (input-decides m xs (refusal 2 0) (input-two c o) (λ z. omega arith))
   gives (three {k} r o) =
@@ -74,5 +74,5 @@ module _ (m : ℕ) (xs : List ℕ) where
   gives (six t p h) = sym (heavy m xs (passed t) (commonOf xs) (within t p) h)
 
   -- and its number
-  pub gives-no : {n i : ℕ} → Given m xs n i → refusalOf m xs .no ≡ n
+  pub gives-no : {n i : ℕ} → Given m xs n i → planRefusal m xs .no ≡ n
   gives-no g = ap (λ (r : Refusal). r .no) (gives g)

@@ -5,12 +5,12 @@ use mathlib.Core.List.{List, [], _∷_, _++_}
 use native.Mathlib.Omega.{arith}
 use lib.ListN.{length, getD, length-append, length-replicate}
 use Rattle.units.specs.Limits.{tasksLimit}
-use Rattle.lists.specs.Lists.{zeros, sum, most}
+use Rattle.lists.specs.Lists.{zeros, total, most}
 use Rattle.lists.proofs.Lists.{zeros-at, zeros-sum, zeros-most}
 use Rattle.admission.specs.Weight.{padded}
 
 -- zeros add nothing
-sum-zeros : (ws : List ℕ) (n : ℕ) → sum (ws ++ zeros n) ≡ sum ws
+sum-zeros : (ws : List ℕ) (n : ℕ) → total (ws ++ zeros n) ≡ total ws
 sum-zeros [] n = zeros-sum n
 sum-zeros (w ∷ ws) n = omega (arith, sum-zeros ws n)
 
@@ -27,7 +27,7 @@ at-zeros (w ∷ ws) n (suc k) = at-zeros ws n k
 
 module _ (ws : List ℕ) where
   -- the sum is that of the weights
-  pub padded-sum : sum (padded ws) ≡ sum ws
+  pub padded-sum : total (padded ws) ≡ total ws
   padded-sum = sum-zeros ws (tasksLimit - length ws)
 
   -- so is the largest

@@ -6,7 +6,7 @@ use native.Mathlib.Nat.{div-mul-cancel, dvd-mul-left-of-dvd, mul-pos, pos-of-ne-
 use native.Mathlib.Omega.{arith}
 use lib.ListN.{length, getD}
 use Rattle.units.specs.Limits.{tasksLimit, commonLimit}
-use Rattle.lists.specs.Lists.{sum, most}
+use Rattle.lists.specs.Lists.{total, most}
 use Rattle.arith.specs.Period.{periods}
 use Rattle.arith.proofs.Common.{common-each, common-least, common-pos}
 use Rattle.arith.proofs.Table.{periods-at, periods-length}
@@ -66,7 +66,7 @@ module _ (m : ℕ) (xs : List ℕ) (t : Taken m xs) where
       )
 
   -- sixty-four weights, none above L, that together are no more than M × L
-  pub padded-kept : (length (padded (weightsOf xs)) ≡ tasksLimit) × (most (padded (weightsOf xs)) ≤ commonOf xs) × (sum (padded (weightsOf xs)) ≤ m * commonOf xs)
+  pub padded-kept : (length (padded (weightsOf xs)) ≡ tasksLimit) × (most (padded (weightsOf xs)) ≤ commonOf xs) × (total (padded (weightsOf xs)) ≤ m * commonOf xs)
   padded-kept =
       let n = weights-length (commonOf xs) xs in (
         padded-length (weightsOf xs) (omega (arith, t .table)),

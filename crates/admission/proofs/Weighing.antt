@@ -6,7 +6,7 @@ use native.Mathlib.Omega.{arith}
 use native.Mathlib.Nat.{div-mul-cancel, mul-div-cancel, mul-le-mul, mul-le-mul-left}
 use lib.ListN.{length, getD, drop, set}
 use Rattle.units.specs.Limits.{tasksLimit, commonLimit}
-use Rattle.lists.specs.Lists.{zeros, sum}
+use Rattle.lists.specs.Lists.{zeros, total}
 use Rattle.lists.proofs.Pairs.{pair-drop, pair-end}
 use Rattle.lists.proofs.Filled.{Filled, empty, next, full}
 use Rattle.admission.specs.Weight.{weight, weights, padded}
@@ -25,11 +25,11 @@ weight-le l c t h d = omega (arith, mul-le-mul-left (l / t) h, div-mul-cancel t 
 pub record Weighing (l : ℕ) (xs ws : List ℕ) (s k : ℕ) : Type 0 where
   pub below : k ≤ length xs / 2
   pub filled : Filled 0 tasksLimit (weights l xs) ws (weights l (drop (2 * k) xs)) k
-  pub total : s + sum (weights l (drop (2 * k) xs)) ≡ sum (weights l xs)
+  pub summed : s + total (weights l (drop (2 * k) xs)) ≡ total (weights l xs)
   pub small : s ≤ k * l
 
 pub start : (l : ℕ) (xs : List ℕ) → Weighing l xs (zeros tasksLimit) 0 0
-start l xs = record { below = omega arith; filled = empty 0 tasksLimit (weights l xs); total = omega arith; small = omega arith }
+start l xs = record { below = omega arith; filled = empty 0 tasksLimit (weights l xs); summed = omega arith; small = omega arith }
 
 pub step : (l : ℕ) (xs ws : List ℕ) (s k w : ℕ) → Weighing l xs ws s k → 2 * k + 1 < length xs → k < tasksLimit
     → w ≡ weight l (getD xs (2 * k) 0) (getD xs (2 * k + 1) 0) → w ≤ l → Weighing l xs (set ws k w) (s + w) (k + 1)
@@ -38,7 +38,7 @@ step l xs ws s k w g h b e m =
     record {
       below = omega arith;
       filled = next 0 tasksLimit (weights l xs) ws (weights l (drop (2 * (k + 1)) xs)) k w (rw here at (g .filled)) b;
-      total = omega (arith, g .total, ap sum here);
+      summed = omega (arith, g .summed, ap total here);
       small = omega (arith, g .small);
     }
 
@@ -53,7 +53,7 @@ weights-short l (x ∷ []) h = refl
 weights-short l (x ∷ y ∷ ys) h = absurd (omega arith)
 
 pub finish : (l : ℕ) (xs ws : List ℕ) (s k : ℕ) → Weighing l xs ws s k → length xs / 2 ≤ k → k ≤ tasksLimit
-    → (ws ≡ padded (weights l xs)) × (s ≡ sum (weights l xs))
+    → (ws ≡ padded (weights l xs)) × (s ≡ total (weights l xs))
 finish l xs ws s k g h b =
     let none : weights l (drop (2 * k) xs) ≡ [] = weights-short l (drop (2 * k) xs) (pair-end xs k h) in
-    (full 0 tasksLimit (weights l xs) ws (weights l (drop (2 * k) xs)) k (g .filled) none b, omega (arith, g .total, ap sum none))
+    (full 0 tasksLimit (weights l xs) ws (weights l (drop (2 * k) xs)) k (g .filled) none b, omega (arith, g .summed, ap total none))

@@ -20,8 +20,8 @@ periodTest (Common l) = taken
 periodTest (Over k) = refusal 5 k
 
 -- the first refusal that applies: 1, 2, then tasks in table order (3 before 4 in each), then 5, then 6
-unfoldable pub refusalOf : ℕ → List ℕ → Refusal
-refusalOf m xs =
+unfoldable pub planRefusal : ℕ → List ℕ → Refusal
+planRefusal m xs =
     inputTest m xs
     orElse periodTest (periodOf (periods xs))
     orElse weightsTest m (common (periods xs)) (weights (common (periods xs)) xs)
@@ -37,6 +37,6 @@ takenWith l ws = record { refusal = taken; common = l; weights = units (padded w
 -- the first refusal that applies, or none with the common period and the weights
 unfoldable pub admissionOf : ℕ → List ℕ → Admission
 admissionOf m xs =
-    cond (eqb (refusalOf m xs .no) 0)
+    cond (eqb (planRefusal m xs .no) 0)
     (takenWith (common (periods xs)) (weights (common (periods xs)) xs))
-    (refusedWith (refusalOf m xs))
+    (refusedWith (planRefusal m xs))

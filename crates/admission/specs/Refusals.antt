@@ -5,7 +5,7 @@ use mathlib.Core.List.{List, [], _∷_}
 use lib.Dec.{ltb, eqb}
 use lib.ListN.{length}
 use Rattle.units.specs.Limits.{coresLimit, tasksLimit, periodLimit}
-use Rattle.lists.specs.Lists.{sum}
+use Rattle.lists.specs.Lists.{total}
 use Rattle.admission.specs.declared.refusals.Refusal.{Refusal}
 
 -- a refusal's number and the task that it names
@@ -47,4 +47,4 @@ inputTest m xs = coresTest m orElse tableTest xs orElse tasksTest 1 xs
 
 -- 6: the weights sum to more than M × L
 abbrev pub weightsTest : ℕ → ℕ → List ℕ → Refusal
-weightsTest m l ws = cond (ltb (m * l) (sum ws)) (refusal 6 0) taken
+weightsTest m l ws = cond (ltb (m * l) (total ws)) (refusal 6 0) taken

@@ -5,7 +5,7 @@ use mathlib.Core.Logic.{_⊎_}
 use mathlib.Core.List.{List}
 use lib.ListN.{length, getD}
 use Rattle.units.specs.Limits.{coresLimit, tasksLimit, periodLimit, commonLimit}
-use Rattle.lists.specs.Lists.{sum}
+use Rattle.lists.specs.Lists.{total}
 use Rattle.arith.specs.Period.{periods, common}
 use Rattle.admission.specs.Weight.{weights}
 
@@ -87,8 +87,8 @@ PeriodOut xs = commonLimit < commonOf xs
 
 -- all tasks together ask for no more than there is
 abbrev pub AllFit : ℕ → List ℕ → Type 0
-AllFit m xs = sum (weightsOf xs) ≤ m * commonOf xs
+AllFit m xs = total (weightsOf xs) ≤ m * commonOf xs
 
 -- they ask for more
 abbrev pub Overfull : ℕ → List ℕ → Type 0
-Overfull m xs = m * commonOf xs < sum (weightsOf xs)
+Overfull m xs = m * commonOf xs < total (weightsOf xs)

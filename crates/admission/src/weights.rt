@@ -3,7 +3,7 @@ use units::limits::TASKS;
 use units::share::Share;
 ghost use mathlib.Core.Path.{_≡_};
 ghost use Prim.Native.Nat.{_≤_, _<_, _∣_};
-ghost use Rattle.lists.specs.Lists.{sum as sumOf};
+ghost use Rattle.lists.specs.Lists.{total as sumOf};
 ghost use Rattle.units.specs.Units.{nums};
 ghost use Rattle.admission.specs.Weight.{weight, weights as weightsOf, padded, Weighable};
 

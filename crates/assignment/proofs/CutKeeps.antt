@@ -6,8 +6,8 @@ use mathlib.Core.Bool.{true}
 use mathlib.Core.List.{List, [], _∷_, map}
 use native.Mathlib.Omega.{arith}
 use lib.ListN.{getD, take}
-use Rattle.lists.specs.Lists.{sum}
-use Rattle.lists.specs.Rows.{count, column}
+use Rattle.lists.specs.Lists.{total}
+use Rattle.lists.specs.Rows.{howMany, column}
 use Rattle.lists.proofs.Tests.{bit-cases}
 use Rattle.lists.proofs.Lists.{sum-take-suc, sum-ends}
 use Rattle.assignment.specs.Passes.{cut, rest, passTwo}
@@ -15,25 +15,25 @@ use Rattle.assignment.specs.Movers.{upper, lower}
 use Rattle.assignment.proofs.Words.{upper-says, lower-says}
 
 -- what it takes of the first p cores
-pub cut-take : (n : ℕ) (rs : List ℕ) (p : ℕ) → sum (take p (cut n rs)) ≡ min n (sum (take p rs))
+pub cut-take : (n : ℕ) (rs : List ℕ) (p : ℕ) → total (take p (cut n rs)) ≡ min n (total (take p rs))
 cut-take n [] zero = omega arith
 cut-take n [] (suc p) = omega arith
 cut-take n (r ∷ rs) zero = omega arith
 cut-take n (r ∷ rs) (suc p) = omega (arith, cut-take (n - r) rs p)
 
 -- what they have left
-pub rest-take : (n : ℕ) (rs : List ℕ) (p : ℕ) → sum (take p (rest n rs)) ≡ sum (take p rs) - n
+pub rest-take : (n : ℕ) (rs : List ℕ) (p : ℕ) → total (take p (rest n rs)) ≡ total (take p rs) - n
 rest-take n [] zero = omega arith
 rest-take n [] (suc p) = omega arith
 rest-take n (r ∷ rs) zero = omega arith
 rest-take n (r ∷ rs) (suc p) = omega (arith, rest-take (n - r) rs p)
 
 -- the same of all cores
-pub cut-sum : (n : ℕ) (rs : List ℕ) → sum (cut n rs) ≡ min n (sum rs)
+pub cut-sum : (n : ℕ) (rs : List ℕ) → total (cut n rs) ≡ min n (total rs)
 cut-sum n [] = omega arith
 cut-sum n (r ∷ rs) = omega (arith, cut-sum (n - r) rs)
 
-pub rest-sum : (n : ℕ) (rs : List ℕ) → sum (rest n rs) ≡ sum rs - n
+pub rest-sum : (n : ℕ) (rs : List ℕ) → total (rest n rs) ≡ total rs - n
 rest-sum n [] = omega arith
 rest-sum n (r ∷ rs) = omega (arith, rest-sum (n - r) rs)
 
@@ -44,11 +44,11 @@ cut-rest n (r ∷ rs) zero = omega arith
 cut-rest n (r ∷ rs) (suc p) = cut-rest (n - r) rs p
 
 -- pass two gives each task its whole weight, where there is room for all
-pub passTwo-sums : (ws room : List ℕ) → sum ws ≤ sum room → map sum (passTwo ws room) ≡ ws
+pub passTwo-sums : (ws room : List ℕ) → total ws ≤ total room → map total (passTwo ws room) ≡ ws
 passTwo-sums [] room h = refl
 passTwo-sums (w ∷ ws) room h =
-    let e : sum (cut w room) ≡ w = omega (arith, cut-sum w room) in
-    let ih : map sum (passTwo ws (rest w room)) ≡ ws = passTwo-sums ws (rest w room) (omega (arith, rest-sum w room)) in
+    let e : total (cut w room) ≡ w = omega (arith, cut-sum w room) in
+    let ih : map total (passTwo ws (rest w room)) ≡ ws = passTwo-sums ws (rest w room) (omega (arith, rest-sum w room)) in
     λ i. e i ∷ ih i
 
 -- and fills no core past its room
@@ -58,7 +58,7 @@ passTwo-column p (w ∷ ws) room = omega (arith, passTwo-column p ws (rest w roo
 
 module _ (p w : ℕ) (room : List ℕ) where
   -- an upper mover leaves no room below the core
-  upper-means : upper p (cut w room) ≡ true → (0 < sum (take p room)) × (sum (take p room) < w)
+  upper-means : upper p (cut w room) ≡ true → (0 < total (take p room)) × (total (take p room) < w)
   upper-means e =
       omega (
         arith,
@@ -70,7 +70,7 @@ module _ (p w : ℕ) (room : List ℕ) where
       )
 
   -- a lower mover leaves none up to the core
-  lower-means : lower p (cut w room) ≡ true → (0 < sum (take (suc p) room)) × (sum (take (suc p) room) < w)
+  lower-means : lower p (cut w room) ≡ true → (0 < total (take (suc p) room)) × (total (take (suc p) room) < w)
   lower-means e =
       omega (
         arith,
@@ -82,7 +82,7 @@ module _ (p w : ℕ) (room : List ℕ) where
       )
 
 -- so no task after it is upper there
-pub passTwo-uppers : (p : ℕ) (ws room : List ℕ) → count (upper p) (passTwo ws room) ≤ min 1 (sum (take p room))
+pub passTwo-uppers : (p : ℕ) (ws room : List ℕ) → howMany (upper p) (passTwo ws room) ≤ min 1 (total (take p room))
 passTwo-uppers p [] room = omega arith
 passTwo-uppers p (w ∷ ws) room =
     ⊎-elim
@@ -91,7 +91,7 @@ passTwo-uppers p (w ∷ ws) room =
     (bit-cases (upper p (cut w room)))
 
 -- nor lower
-pub passTwo-lowers : (p : ℕ) (ws room : List ℕ) → count (lower p) (passTwo ws room) ≤ min 1 (sum (take (suc p) room))
+pub passTwo-lowers : (p : ℕ) (ws room : List ℕ) → howMany (lower p) (passTwo ws room) ≤ min 1 (total (take (suc p) room))
 passTwo-lowers p [] room = omega arith
 passTwo-lowers p (w ∷ ws) room =
     ⊎-elim

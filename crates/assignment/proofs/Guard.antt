@@ -7,7 +7,7 @@ use native.Mathlib.Omega.{arith}
 use lib.Dec.{eqb}
 use lib.ListN.{length, getD}
 use borrow.Author.Tests.{eqb-true, eqb-false}
-use Rattle.lists.specs.Lists.{sum, most, atMost, val}
+use Rattle.lists.specs.Lists.{total, most, atMost, val}
 use Rattle.lists.specs.Rows.{top}
 use Rattle.lists.proofs.Tests.{by-cases}
 use Rattle.lists.proofs.Lists.{most-ge}
@@ -30,7 +30,7 @@ val-le false n = omega arith
 passTwo-top : (f : List ℕ → Bool) (ws room : List ℕ) → top f (passTwo ws room) ≤ most ws
 passTwo-top f [] room = omega arith
 passTwo-top f (w ∷ ws) room =
-    omega (arith, passTwo-top f ws (rest w room), val-le (f (cut w room)) (sum (cut w room)), cut-sum w room)
+    omega (arith, passTwo-top f ws (rest w room), val-le (f (cut w room)) (total (cut w room)), cut-sum w room)
 
 -- and none of both passes
 passes-top : (f : List ℕ → Bool) (ws room : List ℕ) → top f (passes ws room) ≤ most ws
@@ -39,7 +39,7 @@ passes-top f =
     (λ room. omega arith)
     (λ w ws room fit ih.
     let r : List ℕ = whole w (atMost room) room in
-    omega (arith, val-le (f r) (sum r), whole-sum-le w (atMost room) room))
+    omega (arith, val-le (f r) (total r), whole-sum-le w (atMost room) room))
     (λ w ws room misfit. passTwo-top f (w ∷ ws) room)
 
 module _ (l p : ℕ) where

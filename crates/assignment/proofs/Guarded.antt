@@ -8,7 +8,7 @@ use native.Mathlib.Omega.{arith}
 use lib.Dec.{ltb, leb}
 use lib.ListN.{getD}
 use borrow.Author.Tests.{ltb-true, ltb-false, leb-true, leb-false}
-use Rattle.lists.specs.Lists.{sum, val}
+use Rattle.lists.specs.Lists.{total, val}
 use Rattle.lists.specs.Rows.{top}
 use Rattle.lists.proofs.Tests.{by-cases}
 use Rattle.lists.proofs.Lists.{parts-le}
@@ -18,19 +18,19 @@ use Rattle.assignment.proofs.Properties.{row, weight}
 use Rattle.assignment.proofs.Words.{moves-says}
 
 -- the heaviest row that passes a test is one of them
-top-has : (f : List ℕ → Bool) (tab : List (List ℕ)) → 0 < top f tab → (k : ℕ) × (f (getD tab k []) ≡ true) × (sum (getD tab k []) ≡ top f tab)
+top-has : (f : List ℕ → Bool) (tab : List (List ℕ)) → 0 < top f tab → (k : ℕ) × (f (getD tab k []) ≡ true) × (total (getD tab k []) ≡ top f tab)
 top-has f [] h = absurd (omega arith)
 top-has f (r ∷ tab) h =
     by-cases (f r)
     (λ e.
-    let v : val (f r) (sum r) ≡ sum r = ap (λ (b : Bool). val b (sum r)) e in
-    by-cases (leb (top f tab) (sum r))
-    (λ l. (0, e, omega (arith, leb-true (top f tab) (sum r) l)))
+    let v : val (f r) (total r) ≡ total r = ap (λ (b : Bool). val b (total r)) e in
+    by-cases (leb (top f tab) (total r))
+    (λ l. (0, e, omega (arith, leb-true (top f tab) (total r) l)))
     (λ l.
-    let ih = top-has f tab (omega (arith, leb-false (top f tab) (sum r) l)) in
-    (suc (ih .0), ih .1, omega (arith, ih .2, leb-false (top f tab) (sum r) l))))
+    let ih = top-has f tab (omega (arith, leb-false (top f tab) (total r) l)) in
+    (suc (ih .0), ih .1, omega (arith, ih .2, leb-false (top f tab) (total r) l))))
     (λ e.
-    let v : val (f r) (sum r) ≡ 0 = ap (λ (b : Bool). val b (sum r)) e in
+    let v : val (f r) (total r) ≡ 0 = ap (λ (b : Bool). val b (total r)) e in
     let ih = top-has f tab (omega arith) in
     (suc (ih .0), ih .1, omega (arith, ih .2)))
 

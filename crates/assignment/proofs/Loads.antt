@@ -7,8 +7,8 @@ use native.Mathlib.Omega.{arith}
 use lib.Dec.{ltb, eqb}
 use lib.ListN.{getD}
 use borrow.Author.Tests.{ltb-true, lt-ltb, ne-eqb}
-use Rattle.lists.specs.Lists.{sum, parts, bit, val}
-use Rattle.lists.specs.Rows.{fold, count, column, columnOf}
+use Rattle.lists.specs.Lists.{total, parts, bit, val}
+use Rattle.lists.specs.Rows.{fold, howMany, column, columnOf}
 use Rattle.lists.proofs.Tests.{by-cases}
 use Rattle.lists.proofs.Lists.{getD-le-sum, parts-some}
 use Rattle.assignment.specs.Movers.{has, firstCore, fixedOn, movesOn, lower, upper}
@@ -50,11 +50,11 @@ module _ (p : ℕ) where
       ∙ val-positive (getD r p 0)
 
   -- a fixed task's share is its weight
-  fixed-row : (r : List ℕ) → val (fixedOn p r) (sum r) ≡ val (fixedOn p r) (getD r p 0)
+  fixed-row : (r : List ℕ) → val (fixedOn p r) (total r) ≡ val (fixedOn p r) (getD r p 0)
   fixed-row r = by-cases (fixedOn p r) (λ e. rw e (fixed-says p r e)) (λ e. rw e)
 
   -- the movers on a core, counted
-  pub count-movers : (tab : List (List ℕ)) → count (upper p) tab + count (lower p) tab ≡ count (movesOn p) tab
+  pub count-movers : (tab : List (List ℕ)) → howMany (upper p) tab + howMany (lower p) tab ≡ howMany (movesOn p) tab
   count-movers [] = refl
   count-movers (r ∷ tab) = omega (arith, movers-row r, count-movers tab)
 
@@ -64,6 +64,6 @@ module _ (p : ℕ) where
   column-movers (r ∷ tab) = omega (arith, val-split (movesOn p r) (eqb (firstCore r) p) (getD r p 0), column-movers tab)
 
   -- the fixed tasks' weights and the movers' shares
-  pub column-all : (tab : List (List ℕ)) → fold _+_ (λ r. val (fixedOn p r) (sum r)) tab + columnOf (movesOn p) p tab ≡ column p tab
+  pub column-all : (tab : List (List ℕ)) → fold _+_ (λ r. val (fixedOn p r) (total r)) tab + columnOf (movesOn p) p tab ≡ column p tab
   column-all [] = refl
   column-all (r ∷ tab) = omega (arith, fixed-row r, shares-row r, column-all tab)

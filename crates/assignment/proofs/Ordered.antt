@@ -10,7 +10,7 @@ use Rattle.lists.specs.Lists.{zeros, parts}
 use Rattle.lists.proofs.Lists.{parts-len}
 use Rattle.ordering.specs.Order.{order, inOrder, orderedOf}
 use Rattle.ordering.proofs.Picks.{order-length, inOrder-length, order-place, inOrder-at}
-use Rattle.assignment.specs.Passes.{blank, sharesOf}
+use Rattle.assignment.specs.Passes.{emptyRows, sharesOf}
 use Rattle.assignment.specs.Assign.{weigh, assign, from, Among}
 
 -- the weight of the i-th of some tasks
@@ -39,6 +39,6 @@ module _ (ws : List ℕ) (l : length ws ≡ tasksLimit) where
   }
 
   -- both passes over them give the shares
-  pub shares-are : (room : List ℕ) → length room ≡ coresLimit → assign ws (from (orderedOf ws) 0) room (blank tasksLimit coresLimit) ≡ sharesOf ws room
+  pub shares-are : (room : List ℕ) → length room ≡ coresLimit → assign ws (from (orderedOf ws) 0) room (emptyRows tasksLimit coresLimit) ≡ sharesOf ws room
   unfolding orderedOf sharesOf
   shares-are room k = rw (take-at (order ws) (zeros (tasksLimit - parts ws)) (parts ws) (order-length ws), weigh-order ws, l, k)

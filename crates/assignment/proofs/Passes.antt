@@ -7,8 +7,8 @@ use native.Mathlib.Omega.{arith}
 use lib.Dec.{leb}
 use lib.ListN.{length, getD}
 use borrow.Author.Tests.{leb-true, leb-false}
-use Rattle.lists.specs.Lists.{sum, most, atMost, bit}
-use Rattle.lists.specs.Rows.{count, column}
+use Rattle.lists.specs.Lists.{total, most, atMost, bit}
+use Rattle.lists.specs.Rows.{howMany, column}
 use Rattle.lists.proofs.Tests.{by-cases}
 use Rattle.lists.proofs.Lists.{atMost-is, atMost-lt}
 use Rattle.assignment.specs.Passes.{passTwo, whole, less, passes}
@@ -36,14 +36,14 @@ passes-ind P none fits misfit (w ∷ ws) room =
     (λ e. subst⁻¹ (P (w ∷ ws) room) (ap (λ t. cond t a b) e) (misfit w ws room (leb-false w (most room) e)))
 
 -- each task is given its whole weight, where there is room for all
-pub passes-sums : (ws room : List ℕ) → 0 < length room → sum ws ≤ sum room → map sum (passes ws room) ≡ ws
+pub passes-sums : (ws room : List ℕ) → 0 < length room → total ws ≤ total room → map total (passes ws room) ≡ ws
 passes-sums =
-    passes-ind (λ ws room rs. 0 < length room → sum ws ≤ sum room → map sum rs ≡ ws)
+    passes-ind (λ ws room rs. 0 < length room → total ws ≤ total room → map total rs ≡ ws)
     (λ room h k. refl)
     (λ w ws room fit ih h k.
     let q : ℕ = atMost room in
-    let e : sum (whole w q room) ≡ w = whole-sum w q room (atMost-lt room h) in
-    let ih′ : map sum (passes ws (less w q room)) ≡ ws =
+    let e : total (whole w q room) ≡ w = whole-sum w q room (atMost-lt room h) in
+    let ih′ : map total (passes ws (less w q room)) ≡ ws =
     ih (omega (arith, less-length w q room)) (omega (arith, less-sum w q room (omega (arith, atMost-is room)))) in
     λ i. e i ∷ ih′ i)
     (λ w ws room misfit h k. passTwo-sums (w ∷ ws) room k)
@@ -62,17 +62,17 @@ module _ (p : ℕ) where
   whole-neither w q room = movers-row p (whole w q room) ∙ ap bit (whole-stays p w q room)
 
   -- at most one upper mover
-  pub passes-uppers : (ws room : List ℕ) → count (upper p) (passes ws room) ≤ 1
+  pub passes-uppers : (ws room : List ℕ) → howMany (upper p) (passes ws room) ≤ 1
   passes-uppers =
-      passes-ind (λ ws room rs. count (upper p) rs ≤ 1)
+      passes-ind (λ ws room rs. howMany (upper p) rs ≤ 1)
       (λ room. omega arith)
       (λ w ws room fit ih. omega (arith, whole-neither w (atMost room) room))
       (λ w ws room misfit. omega (arith, passTwo-uppers p (w ∷ ws) room))
 
   -- and one lower
-  pub passes-lowers : (ws room : List ℕ) → count (lower p) (passes ws room) ≤ 1
+  pub passes-lowers : (ws room : List ℕ) → howMany (lower p) (passes ws room) ≤ 1
   passes-lowers =
-      passes-ind (λ ws room rs. count (lower p) rs ≤ 1)
+      passes-ind (λ ws room rs. howMany (lower p) rs ≤ 1)
       (λ room. omega arith)
       (λ w ws room fit ih. omega (arith, whole-neither w (atMost room) room))
       (λ w ws room misfit. omega (arith, passTwo-lowers p (w ∷ ws) room))

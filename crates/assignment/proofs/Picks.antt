@@ -4,9 +4,9 @@ use mathlib.Core.Path.{_≡_, refl, sym, ap}
 use mathlib.Core.List.{List, [], _∷_}
 use native.Mathlib.Omega.{arith}
 use lib.ListN.{length, set}
-use Rattle.lists.specs.Lists.{sum, most, atMost, parts}
+use Rattle.lists.specs.Lists.{total, most, atMost, parts}
 use Rattle.lists.proofs.Lists.{atMost-is, atMost-lt, most-some, sum-set, parts-none, parts-set, parts-most}
-use Rattle.ordering.specs.Order.{weightsOf, inOrder}
+use Rattle.ordering.specs.Order.{pickedWeights, inOrder}
 use Rattle.assignment.proofs.Guard.{Falls}
 
 -- the weights that a pick leaves
@@ -39,26 +39,26 @@ left-most (w ∷ ws) zero = omega arith
 left-most (w ∷ ws) (suc t) = omega (arith, left-most ws t)
 
 -- nor are the weights picked
-weights-most : (k : ℕ) (ws : List ℕ) → most (weightsOf k ws) ≤ most ws
+weights-most : (k : ℕ) (ws : List ℕ) → most (pickedWeights k ws) ≤ most ws
 weights-most zero ws = omega arith
 weights-most (suc k) ws = omega (arith, weights-most k (left ws), left-most ws (atMost ws))
 
 -- they fall
-weights-fall : (k : ℕ) (ws : List ℕ) → parts ws ≡ k → Falls (weightsOf k ws)
+weights-fall : (k : ℕ) (ws : List ℕ) → parts ws ≡ k → Falls (pickedWeights k ws)
 weights-fall zero ws e = tt
 weights-fall (suc k) ws e =
     let c = picked k ws e in
     (omega (arith, weights-most k (left ws), left-most ws (atMost ws)), c .some, weights-fall k (left ws) (c .fewer))
 
 -- they are all that there is
-weights-sum : (k : ℕ) (ws : List ℕ) → parts ws ≡ k → sum (weightsOf k ws) ≡ sum ws
+weights-sum : (k : ℕ) (ws : List ℕ) → parts ws ≡ k → total (pickedWeights k ws) ≡ total ws
 weights-sum zero ws e = sym (parts-none ws e)
 weights-sum (suc k) ws e =
     let c = picked k ws e in
     omega (arith, weights-sum k (left ws) (c .fewer), sum-set ws (atMost ws) 0 (c .there), atMost-is ws)
 
 -- one for each pick
-pub weights-length : (k : ℕ) (ws : List ℕ) → length (weightsOf k ws) ≡ k
+pub weights-length : (k : ℕ) (ws : List ℕ) → length (pickedWeights k ws) ≡ k
 weights-length zero ws = refl
 weights-length (suc k) ws = ap suc (weights-length k (left ws))
 
@@ -74,6 +74,6 @@ module _ (ws : List ℕ) where
   order-most = weights-most (parts ws) ws
 
   -- they sum to the tasks'
-  pub order-sum : sum (inOrder ws) ≡ sum ws
+  pub order-sum : total (inOrder ws) ≡ total ws
   unfolding inOrder
   order-sum = weights-sum (parts ws) ws refl

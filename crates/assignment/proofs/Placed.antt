@@ -5,8 +5,8 @@ use mathlib.Core.List.{List, [], _++_}
 use native.Mathlib.Omega.{arith}
 use lib.ListN.{length, getD, replicate, length-append, length-replicate}
 use Rattle.units.specs.Limits.{coresLimit}
-use Rattle.lists.specs.Lists.{zeros, sum, most, bit, val}
-use Rattle.lists.specs.Rows.{count, column}
+use Rattle.lists.specs.Lists.{zeros, total, most, bit, val}
+use Rattle.lists.specs.Rows.{howMany, column}
 use Rattle.lists.proofs.Lists.{zeros-at, zeros-sum, zeros-parts}
 use Rattle.ordering.specs.Order.{inOrder}
 use Rattle.assignment.specs.Passes.{sharesOf, rooms}
@@ -21,7 +21,7 @@ use Rattle.assignment.proofs.Scatter.{sum-shares, max-shares, shares-su
 
 module _ (l k : ℕ) where
   -- the room of m empty cores of l units, and of k that are not there
-  room-sum : (m : ℕ) → sum (replicate m l ++ zeros k) ≡ m * l
+  room-sum : (m : ℕ) → total (replicate m l ++ zeros k) ≡ m * l
   room-sum zero = omega (arith, zeros-sum k)
   room-sum (suc m) = omega (arith, room-sum m)
 
@@ -48,12 +48,12 @@ module _ (p : ℕ) (ws room : List ℕ) where
   column-le = omega (arith, sum-shares (λ r. getD r p 0) ws room (zeros-at (length room) p) refl, passes-column p (inOrder ws) room)
 
   -- at most one upper mover
-  uppers : count (upper p) (sharesOf ws room) ≤ 1
+  uppers : howMany (upper p) (sharesOf ws room) ≤ 1
   uppers =
       omega (arith, sum-shares (λ r. bit (upper p r)) ws room (rw (zeros-parts (length room))) refl, passes-uppers p (inOrder ws) room)
 
   -- and one lower
-  lowers : count (lower p) (sharesOf ws room) ≤ 1
+  lowers : howMany (lower p) (sharesOf ws room) ≤ 1
   lowers =
       omega (arith, sum-shares (λ r. bit (lower p r)) ws room (rw (zeros-parts (length room))) refl, passes-lowers p (inOrder ws) room)
 
@@ -70,14 +70,14 @@ module _ (p : ℕ) (ws room : List ℕ) where
         guarded =
             omega (
               arith,
-              max-shares (λ r. val (movesOn p r) (sum r)) ws room (rw (zeros-parts (length room))) refl,
-              max-shares (λ r. val (fixedOn p r) (sum r)) ws room (rw (zeros-parts (length room))) refl,
+              max-shares (λ r. val (movesOn p r) (total r)) ws room (rw (zeros-parts (length room))) refl,
+              max-shares (λ r. val (fixedOn p r) (total r)) ws room (rw (zeros-parts (length room))) refl,
               passes-guard l p (inOrder ws) room (order-falls ws) (omega (arith, order-most ws)) e h,
             );
       }
 
 -- where no task outweighs a core, nor all tasks all cores
-pub placed : (m l : ℕ) (ws : List ℕ) → 0 < m → m ≤ coresLimit → most ws ≤ l → sum ws ≤ m * l
+pub placed : (m l : ℕ) (ws : List ℕ) → 0 < m → m ≤ coresLimit → most ws ≤ l → total ws ≤ m * l
     → Structure m l ws (sharesOf ws (rooms m l))
 placed m l ws some few within fits =
     let room : List ℕ = rooms m l in

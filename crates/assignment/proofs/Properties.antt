@@ -8,8 +8,8 @@ use native.Mathlib.Omega.{arith}
 use lib.Dec.{ltb}
 use lib.ListN.{length, getD, List·getD-map, List·getD-eq-default}
 use borrow.Author.Tests.{ltb-true, ltb-false, lt-ltb}
-use Rattle.lists.specs.Lists.{sum, parts, val, seek}
-use Rattle.lists.specs.Rows.{fold, count, column, columnOf, top}
+use Rattle.lists.specs.Lists.{total, parts, val, seek}
+use Rattle.lists.specs.Rows.{fold, howMany, column, columnOf, top}
 use Rattle.lists.proofs.Tests.{by-cases, and-true}
 use Rattle.lists.proofs.Lists.{getD-le-sum, parts-le}
 use Rattle.lists.proofs.Parts.{first-has}
@@ -25,7 +25,7 @@ row tab i = getD tab i []
 
 -- its weight
 abbrev pub weight : List (List ℕ) → ℕ → ℕ
-weight tab i = sum (row tab i)
+weight tab i = total (row tab i)
 
 -- its share on core p
 abbrev pub share : List (List ℕ) → ℕ → ℕ → ℕ
@@ -33,7 +33,7 @@ share tab i p = getD (row tab i) p 0
 
 -- the weights of the fixed tasks of core p, together
 abbrev pub fixedLoad : ℕ → List (List ℕ) → ℕ
-fixedLoad p tab = fold _+_ (λ r. val (fixedOn p r) (sum r)) tab
+fixedLoad p tab = fold _+_ (λ r. val (fixedOn p r) (total r)) tab
 
 -- the shares of the movers that a search finds on core p (0 where it finds none)
 pub record Halves (l p : ℕ) (tab : List (List ℕ)) : Type 0 where
@@ -41,7 +41,7 @@ pub record Halves (l p : ℕ) (tab : List (List ℕ)) : Type 0 where
   pub two : 3 * (share tab (seek (upper p) tab) p + share tab (seek (lower p) tab) p) ≤ 2 * l
 
 -- a core that has no share has no mover
-none-moves : (p : ℕ) (tab : List (List ℕ)) → column p tab ≡ 0 → (count (movesOn p) tab ≡ 0) × (top (movesOn p) tab ≡ 0)
+none-moves : (p : ℕ) (tab : List (List ℕ)) → column p tab ≡ 0 → (howMany (movesOn p) tab ≡ 0) × (top (movesOn p) tab ≡ 0)
 none-moves p [] e = (refl, refl)
 none-moves p (r ∷ tab) e =
     by-cases (movesOn p r)
@@ -61,7 +61,7 @@ module _ {m l : ℕ} {ws : List ℕ} {tab : List (List ℕ)} (s : Structure m l 
 
   -- a row's sum is its task's weight
   pub weight-at : (i : ℕ) → getD ws i 0 ≡ weight tab i
-  weight-at i = ap (λ (xs : List ℕ). getD xs i 0) (sym (s .sums)) ∙ List·getD-map sum tab i []
+  weight-at i = ap (λ (xs : List ℕ). getD xs i 0) (sym (s .sums)) ∙ List·getD-map total tab i []
 
   -- a share is on one of the m cores
   pub share-core : (i p : ℕ) → 0 < share tab i p → p < m
@@ -75,20 +75,20 @@ module _ {m l : ℕ} {ws : List ℕ} {tab : List (List ℕ)} (s : Structure m l 
   first-core i h = share-core i (firstCore (row tab i)) (first-has (row tab i) h)
 
   -- of two movers one is upper and one lower
-  one-each : (p : ℕ) → (count (upper p) tab ≤ 1) × (count (lower p) tab ≤ 1)
+  one-each : (p : ℕ) → (howMany (upper p) tab ≤ 1) × (howMany (lower p) tab ≤ 1)
   one-each p =
       let n = count-movers p tab in
       let k = kept p .few in
-      by-cases (ltb 1 (count (movesOn p) tab))
-      (λ e. omega (arith, kept p .first (omega (arith, ltb-true 1 (count (movesOn p) tab) e))))
-      (λ e. omega (arith, ltb-false 1 (count (movesOn p) tab) e))
+      by-cases (ltb 1 (howMany (movesOn p) tab))
+      (λ e. omega (arith, kept p .first (omega (arith, ltb-true 1 (howMany (movesOn p) tab) e))))
+      (λ e. omega (arith, ltb-false 1 (howMany (movesOn p) tab) e))
 
   -- at most one mover is upper on a core
-  pub one-upper : (p : ℕ) → count (upper p) tab ≤ 1
+  pub one-upper : (p : ℕ) → howMany (upper p) tab ≤ 1
   one-upper p = one-each p .0
 
   -- at most one is lower
-  pub one-lower : (p : ℕ) → count (lower p) tab ≤ 1
+  pub one-lower : (p : ℕ) → howMany (lower p) tab ≤ 1
   one-lower p = one-each p .1
 
   -- a row that has a share is a task's
@@ -107,7 +107,7 @@ module _ {m l : ℕ} {ws : List ℕ} {tab : List (List ℕ)} (s : Structure m l 
   lower-found p i h = seek-only (lower p) tab i (one-lower p) (row-there p i (lower-says p (row tab i) h .0)) h
 
   -- none is on a core that is not there
-  pub no-mover : (p : ℕ) → m ≤ p → count (movesOn p) tab ≡ 0
+  pub no-mover : (p : ℕ) → m ≤ p → howMany (movesOn p) tab ≡ 0
   no-mover p h = none-moves p tab (s .beyond p h) .0
 
   -- a mover weighs no more than the fixed tasks beside it
@@ -115,7 +115,7 @@ module _ {m l : ℕ} {ws : List ℕ} {tab : List (List ℕ)} (s : Structure m l 
   outweighed p i h = omega (arith, kept p .guarded, top-at (movesOn p) tab i h, top-sum (fixedOn p) tab)
 
   -- property 3: no more than two movers have a share on a core; if two have, it is the first core of exactly one of them
-  pub property-3 : (p : ℕ) → (count (movesOn p) tab ≤ 2) × (count (movesOn p) tab ≡ 2 → count (lower p) tab ≡ 1)
+  pub property-3 : (p : ℕ) → (howMany (movesOn p) tab ≤ 2) × (howMany (movesOn p) tab ≡ 2 → howMany (lower p) tab ≡ 1)
   property-3 p = (kept p .few, kept p .first)
 
   -- property 4: the fixed tasks and the movers of a core do not exceed it

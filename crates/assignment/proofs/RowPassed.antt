@@ -11,7 +11,7 @@ use borrow.Author.Tests.{lt-ltb, le-ltb, eq-eqb, ne-eqb}
 use Rattle.units.specs.declared.share.Share.{Share}
 use Rattle.units.specs.Units.{share, nums}
 use Rattle.units.proofs.Units.{nums-length, nums-at}
-use Rattle.lists.specs.Lists.{sum, parts, firstPart, bit}
+use Rattle.lists.specs.Lists.{total, parts, firstPart, bit}
 use Rattle.lists.proofs.Lists.{parts-cons}
 
 module _ (ss : List Share) (p : ℕ) (h : p < length ss) where
@@ -20,8 +20,8 @@ module _ (ss : List Share) (p : ℕ) (h : p < length ss) where
   shares-from = rw (add-one p, ← (nums-at ss p)) (drop-cons (nums ss) p 0 (omega (arith, nums-length ss)))
 
   -- a share is added
-  pub sum-more : (n : ℕ) → n + sum (drop p (nums ss)) ≡ sum (nums ss) → (n + getD ss p (share 0) .0) + sum (drop (p + 1) (nums ss)) ≡ sum (nums ss)
-  sum-more n e = omega (arith, ap sum shares-from)
+  pub sum-more : (n : ℕ) → n + total (drop p (nums ss)) ≡ total (nums ss) → (n + getD ss p (share 0) .0) + total (drop (p + 1) (nums ss)) ≡ total (nums ss)
+  sum-more n e = omega (arith, ap total shares-from)
 
   -- a share is one part
   pub parts-more : (n : ℕ) → n + parts (drop p (nums ss)) ≡ parts (nums ss) → 0 < getD ss p (share 0) .0

@@ -6,11 +6,11 @@ use native.Mathlib.Omega.{arith}
 use lib.ListN.{length, getD, set, length-set, length-replicate}
 use Rattle.lists.specs.Lists.{zeros, atMost}
 use Rattle.ordering.specs.Order.{order, inOrder}
-use Rattle.assignment.specs.Passes.{cut, rest, passTwo, passes, scatter, blank, sharesOf}
+use Rattle.assignment.specs.Passes.{cut, rest, passTwo, passes, scatter, emptyRows, sharesOf}
 use Rattle.assignment.proofs.Passes.{passes-ind}
 
-pub blank-length : (n m : ℕ) → length (blank n m) ≡ n
-unfolding blank
+pub blank-length : (n m : ℕ) → length (emptyRows n m) ≡ n
+unfolding emptyRows
 blank-length n m = length-replicate n (zeros m)
 
 passTwo-length : (ws room : List ℕ) → length (passTwo ws room) ≡ length ws
@@ -70,8 +70,8 @@ module _ (m : ℕ) where
   scatter-wide (t ∷ ts) [] tab v w = w
   scatter-wide (t ∷ ts) (r ∷ rs) tab v w = scatter-wide ts rs (set tab t r) (v .1) (set-wide tab t r (v .0) w)
 
-  blank-wide : (n : ℕ) → Wide m (blank n m)
-  unfolding blank
+  blank-wide : (n : ℕ) → Wide m (emptyRows n m)
+  unfolding emptyRows
   blank-wide zero = tt
   blank-wide (suc n) = (length-replicate m 0, blank-wide n)
 
@@ -85,12 +85,12 @@ module _ (ws room : List ℕ) where
   pub shares-length : length (sharesOf ws room) ≡ length ws
   unfolding sharesOf
   shares-length =
-      scatter-length (order ws) (passes (inOrder ws) room) (blank (length ws) (length room)) ∙ blank-length (length ws) (length room)
+      scatter-length (order ws) (passes (inOrder ws) room) (emptyRows (length ws) (length room)) ∙ blank-length (length ws) (length room)
 
   -- and in it a number for each core
   pub shares-wide : (i : ℕ) → i < length ws → length (getD (sharesOf ws room) i []) ≡ length room
   unfolding sharesOf
   shares-wide i h =
-      let tab : List (List ℕ) = blank (length ws) (length room) in
+      let tab : List (List ℕ) = emptyRows (length ws) (length room) in
       wide-at (length room) (sharesOf ws room) i (omega (arith, shares-length))
       (scatter-wide (length room) (order ws) (passes (inOrder ws) room) tab (passes-wide (length room) (inOrder ws) room refl) (blank-wide (length room) (length ws)))

@@ -7,7 +7,7 @@ use native.Mathlib.Omega.{arith}
 use lib.Dec.{ltb, eqb}
 use lib.ListN.{getD, take, drop}
 use borrow.Author.Tests.{ltb-true, ltb-false, lt-ltb, eqb-true, eqb-false, eq-eqb, ne-eqb}
-use Rattle.lists.specs.Lists.{sum, parts, bit}
+use Rattle.lists.specs.Lists.{total, parts, bit}
 use Rattle.lists.proofs.Tests.{by-cases, and-left, and-right, and-true, same-bool}
 use Rattle.lists.proofs.Lists.{parts-le, parts-some}
 use Rattle.lists.proofs.Parts.{parts-split, parts-one, first-le, first-below, first-is}
@@ -19,11 +19,11 @@ not-true false e = refl
 
 -- a task reaches into core p: it has a share there, and one below it
 abbrev pub reachesIn : ℕ → List ℕ → Bool
-reachesIn p r = has p r && ltb 0 (sum (take p r))
+reachesIn p r = has p r && ltb 0 (total (take p r))
 
 -- a task reaches out of core p: it has a share there, none below it and one above it
 abbrev pub reachesOut : ℕ → List ℕ → Bool
-reachesOut p r = has p r && (eqb (sum (take p r)) 0 && ltb 0 (sum (drop (suc p) r)))
+reachesOut p r = has p r && (eqb (total (take p r)) 0 && ltb 0 (total (drop (suc p) r)))
 
 module _ (p : ℕ) (r : List ℕ) where
   -- a share on the core
@@ -31,7 +31,7 @@ module _ (p : ℕ) (r : List ℕ) where
   has-says e = ltb-true 0 (getD r p 0) e
 
   -- a fixed task's share is its weight
-  pub fixed-says : fixedOn p r ≡ true → sum r ≡ getD r p 0
+  pub fixed-says : fixedOn p r ≡ true → total r ≡ getD r p 0
   fixed-says e =
       parts-one r p (eqb-true (parts r) 1 (and-left (fixed r) (has p r) e)) (has-says (and-right (fixed r) (has p r) e))
 
@@ -57,12 +57,12 @@ module _ (p : ℕ) (r : List ℕ) where
       eqb-false (firstCore r) p (not-true b (and-right (movesOn p r) (not b) e))
 
   -- so it has a share below the core
-  pub upper-says : upper p r ≡ true → (0 < getD r p 0) × (0 < sum (take p r))
+  pub upper-says : upper p r ≡ true → (0 < getD r p 0) × (0 < total (take p r))
   upper-says e =
       let m = moves-says (upper-moves e) in
-      by-cases (ltb 0 (sum (take p r)))
-      (λ t. (m .1, ltb-true 0 (sum (take p r)) t))
-      (λ t. absurd (upper-not-first e (first-is r p (m .1) (omega (arith, ltb-false 0 (sum (take p r)) t)))))
+      by-cases (ltb 0 (total (take p r)))
+      (λ t. (m .1, ltb-true 0 (total (take p r)) t))
+      (λ t. absurd (upper-not-first e (first-is r p (m .1) (omega (arith, ltb-false 0 (total (take p r)) t)))))
 
   -- and its first core is below
   pub upper-first : upper p r ≡ true → firstCore r < p
@@ -73,11 +73,11 @@ module _ (p : ℕ) (r : List ℕ) where
       (λ t. absurd (upper-not-first e (omega (arith, ltb-false (firstCore r) p t))))
 
   -- a lower mover has none below it and one above it
-  pub lower-says : lower p r ≡ true → (0 < getD r p 0) × (sum (take p r) ≡ 0) × (0 < sum (drop (suc p) r))
+  pub lower-says : lower p r ≡ true → (0 < getD r p 0) × (total (take p r) ≡ 0) × (0 < total (drop (suc p) r))
   lower-says e =
       let m = moves-says (lower-moves e) in
       let f : firstCore r ≡ p = eqb-true (firstCore r) p (and-right (movesOn p r) (eqb (firstCore r) p) e) in
-      let z : sum (take p r) ≡ 0 = rw f at (first-below r) in
+      let z : total (take p r) ≡ 0 = rw f at (first-below r) in
       let b : bit (has p r) ≡ 1 = ap bit (lt-ltb 0 (getD r p 0) (m .1)) in
       (m .1, z, omega (arith, parts-split r p, parts-le (take p r), parts-le (drop (suc p) r)))
 
@@ -85,28 +85,28 @@ module _ (p : ℕ) (r : List ℕ) where
   pub upper-sums : upper p r ≡ reachesIn p r
   upper-sums =
       same-bool (upper p r) (reachesIn p r)
-      (λ e. and-true (has p r) (ltb 0 (sum (take p r))) (lt-ltb 0 (getD r p 0) (upper-says e .0)) (lt-ltb 0 (sum (take p r)) (upper-says e .1)))
+      (λ e. and-true (has p r) (ltb 0 (total (take p r))) (lt-ltb 0 (getD r p 0) (upper-says e .0)) (lt-ltb 0 (total (take p r)) (upper-says e .1)))
       (λ e.
-      let h = and-left (has p r) (ltb 0 (sum (take p r))) e in
-      let t = ltb-true 0 (sum (take p r)) (and-right (has p r) (ltb 0 (sum (take p r))) e) in
+      let h = and-left (has p r) (ltb 0 (total (take p r))) e in
+      let t = ltb-true 0 (total (take p r)) (and-right (has p r) (ltb 0 (total (take p r))) e) in
       and-true (movesOn p r) (not (eqb (firstCore r) p))
       (moves-is (omega (arith, parts-split r p, parts-some (take p r) t, ap bit h)) (has-says h))
-      (ap not (ne-eqb (firstCore r) p (λ f. let z : sum (take p r) ≡ 0 = rw f at (first-below r) in absurd (omega arith)))))
+      (ap not (ne-eqb (firstCore r) p (λ f. let z : total (take p r) ≡ 0 = rw f at (first-below r) in absurd (omega arith)))))
 
   -- and lower where it reaches out
   pub lower-sums : lower p r ≡ reachesOut p r
   lower-sums =
-      let a = eqb (sum (take p r)) 0 in
-      let b = ltb 0 (sum (drop (suc p) r)) in
+      let a = eqb (total (take p r)) 0 in
+      let b = ltb 0 (total (drop (suc p) r)) in
       same-bool (lower p r) (reachesOut p r)
       (λ e.
       let s = lower-says e in
       and-true (has p r) (a && b) (lt-ltb 0 (getD r p 0) (s .0))
-      (and-true a b (eq-eqb (sum (take p r)) 0 (s .1)) (lt-ltb 0 (sum (drop (suc p) r)) (s .2))))
+      (and-true a b (eq-eqb (total (take p r)) 0 (s .1)) (lt-ltb 0 (total (drop (suc p) r)) (s .2))))
       (λ e.
       let h = and-left (has p r) (a && b) e in
-      let z = eqb-true (sum (take p r)) 0 (and-left a b (and-right (has p r) (a && b) e)) in
-      let t = ltb-true 0 (sum (drop (suc p) r)) (and-right a b (and-right (has p r) (a && b) e)) in
+      let z = eqb-true (total (take p r)) 0 (and-left a b (and-right (has p r) (a && b) e)) in
+      let t = ltb-true 0 (total (drop (suc p) r)) (and-right a b (and-right (has p r) (a && b) e)) in
       and-true (movesOn p r) (eqb (firstCore r) p)
       (moves-is (omega (arith, parts-split r p, parts-some (drop (suc p) r) t, ap bit h)) (has-says h))
       (eq-eqb (firstCore r) p (first-is r p (has-says h) z)))

@@ -48,12 +48,12 @@ scatter (t ∷ ts) [] tab = tab
 scatter (t ∷ ts) (r ∷ rs) tab = scatter ts rs (set tab t r)
 
 -- n empty rows of m cores
-unfoldable pub blank : ℕ → ℕ → List (List ℕ)
-blank n m = replicate n (zeros m)
+unfoldable pub emptyRows : ℕ → ℕ → List (List ℕ)
+emptyRows n m = replicate n (zeros m)
 
 -- the shares of each task on each core, for the tasks' weights and the cores' room
 unfoldable pub sharesOf : List ℕ → List ℕ → List (List ℕ)
-sharesOf ws room = scatter (order ws) (passes (inOrder ws) room) (blank (length ws) (length room))
+sharesOf ws room = scatter (order ws) (passes (inOrder ws) room) (emptyRows (length ws) (length room))
 
 -- the room of m empty cores, each of l units; the others have none
 abbrev pub rooms : ℕ → ℕ → List ℕ

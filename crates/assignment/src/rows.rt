@@ -2,7 +2,7 @@
 use units::limits::CORES;
 use units::share::Share;
 ghost use mathlib.Core.Path.{_≡_};
-ghost use Rattle.lists.specs.Lists.{sum as sumOf, parts as partsOf, firstPart};
+ghost use Rattle.lists.specs.Lists.{total as sumOf, parts as partsOf, firstPart};
 ghost use Rattle.units.specs.Units.{nums};
 
 // The sum, which may need more than 32 bits.

@@ -18,9 +18,9 @@ abbrev pub inputLimit : ℕ
 inputLimit = 65536
 
 -- what an input says: a core count, the table's numbers and the place of the first call, or nothing, and then a line is named
-pub data Given : Type 0 where
-  plays : ℕ → List ℕ → ℕ → Given
-  unplayable : ℕ → Given
+pub data InputSays : Type 0 where
+  plays : ℕ → List ℕ → ℕ → InputSays
+  unplayable : ℕ → InputSays
 
 -- a line starts at a place: at the first, or after a newline
 abbrev pub lineStarts : List ℕ → ℕ → Bool
@@ -44,16 +44,16 @@ abbrev pub badCall : List ℕ → ℕ → ℕ → ℕ
 badCall s line at = unreadableFrom (λ p. lineAfter (callLine s p)) (length s) (length s) line at
 
 -- the calls of a table, the first of them at a place, if each can be read; the core count, the tasks and `calls` have a line each before them
-unfoldable pub afterCalls : List ℕ → ℕ → List ℕ → ℕ → Given
+unfoldable pub afterCalls : List ℕ → ℕ → List ℕ → ℕ → InputSays
 afterCalls s m xs at = cond (eqb (badCall s (3 + length xs / 2) at) 0) (plays m xs at) (unplayable (badCall s (3 + length xs / 2) at))
 
 -- what stands before the line `calls` is the table's text; where there is none, the line after the last is named
-unfoldable pub afterTable : List ℕ → ℕ → Said → Given
+unfoldable pub afterTable : List ℕ → ℕ → Said → InputSays
 afterTable s p (says m xs) = cond (ltb p (length s)) (afterCalls s m xs (p + 6)) (unplayable (2 + length xs / 2))
 afterTable s p (unreadable line) = unplayable line
 
 -- the whole input; line 0 is named where it is too long, tested first
-unfoldable pub inputOf : List ℕ → Given
+unfoldable pub inputOf : List ℕ → InputSays
 inputOf s = cond (ltb inputLimit (length s)) (unplayable 0) (afterTable s (callsPlace s) (textOf (take (callsPlace s) s)))
 
 -- this line's call, then the later ones

@@ -6,17 +6,17 @@ use Rattle.planning.specs.Plan.{planOf}
 use Rattle.dispatch.specs.declared.Record.{Record}
 use Rattle.dispatch.specs.Record.{recordOf}
 use Rattle.dispatch.specs.Shape.{Good}
-use Rattle.dispatch.specs.Calls.{Call, timeOf, refusalOf, step, after}
+use Rattle.dispatch.specs.Calls.{Call, timeOf, callRefusal, step, after}
 use Rattle.dispatch.proofs.Always.{always-good, refused-same, accepted-clock, clock-rises, plan-same}
 use Rattle.dispatch.proofs.Never.{never-15}
 use Rattle.dispatch.proofs.Started.{started}
 
 -- a refused call hands back the very record it was given, whatever the record
-pub refused-changes-nothing : (r : Record) (c : Call) → (refusalOf r c ≡ 0 → ⊥) → step r c ≡ r
+pub refused-changes-nothing : (r : Record) (c : Call) → (callRefusal r c ≡ 0 → ⊥) → step r c ≡ r
 refused-changes-nothing = refused-same
 
 -- an accepted call sets the clock to its time, and the clock never falls
-pub clock-follows : (r : Record) (c : Call) → refusalOf r c ≡ 0 → step r c .clock .0 ≡ timeOf c
+pub clock-follows : (r : Record) (c : Call) → callRefusal r c ≡ 0 → step r c .clock .0 ≡ timeOf c
 clock-follows = accepted-clock
 
 pub clock-never-falls : (r : Record) (cs : List Call) → r .clock .0 ≤ after r cs .clock .0
@@ -28,7 +28,7 @@ module _ (m : ℕ) (xs : List ℕ) (ok : planOf m xs .refusal .no ≡ 0) (cs : L
   stays-sound = always-good (recordOf (planOf m xs .plan)) cs (started m xs ok)
 
   -- so 15 is never given again
-  pub never-unsound : (c : Call) → refusalOf (after (recordOf (planOf m xs .plan)) cs) c ≡ 15 → ⊥
+  pub never-unsound : (c : Call) → callRefusal (after (recordOf (planOf m xs .plan)) cs) c ≡ 15 → ⊥
   never-unsound c = never-15 (recordOf (planOf m xs .plan)) cs c (started m xs ok)
 
   -- and the plan stays as it was drawn

@@ -12,7 +12,7 @@ use borrow.Author.Tests.{eqb-true}
 use Rattle.lists.proofs.Tests.{by-cases}
 use Rattle.admission.specs.declared.refusals.Refusal.{Refusal}
 use Rattle.admission.specs.Refusals.{refusal, taken}
-use Rattle.admission.specs.Admission.{refusalOf}
+use Rattle.admission.specs.Admission.{planRefusal}
 use Rattle.admission.specs.Words.{CoresIn, TableIn, RangesIn, NoneOver, PeriodIn, AllFit, tasks, cost, period, commonOf, weightOf}
 use Rattle.admission.specs.Given.{Given, none}
 use Rattle.admission.proofs.Exactly.{exactly, exactly-taken}
@@ -25,11 +25,11 @@ use Rattle.lateness.proofs.Range.{late-range}
 use Rattle.soundness.proofs.Taken.{plan-number, plan-kept}
 
 -- planning answers the first refusal that applies
-pub answers-first : (m : ℕ) (xs : List ℕ) → planOf m xs .refusal ≡ refusalOf m xs
+pub answers-first : (m : ℕ) (xs : List ℕ) → planOf m xs .refusal ≡ planRefusal m xs
 unfolding planOf refusedPlan takenPlan
 answers-first m xs =
-    by-cases (eqb (refusalOf m xs .no) 0)
-    (λ e. rw e (sym (given m xs 0 0 .1 (none (exactly-taken m xs .0 (eqb-true (refusalOf m xs .no) 0 e))))))
+    by-cases (eqb (planRefusal m xs .no) 0)
+    (λ e. rw e (sym (given m xs 0 0 .1 (none (exactly-taken m xs .0 (eqb-true (planRefusal m xs .no) 0 e))))))
     (λ e. rw e)
 
 -- each number is given exactly in its case of document 01's table, with the task that it names
@@ -45,7 +45,7 @@ taken-exactly m xs a b c d = (
 )
 
 module _ (m : ℕ) (xs : List ℕ) (ok : planOf m xs .refusal .no ≡ 0) where
-  none-applies : refusalOf m xs .no ≡ 0
+  none-applies : planRefusal m xs .no ≡ 0
   none-applies = sym (plan-number m xs) ∙ ok
 
   -- L is the least common multiple of the periods

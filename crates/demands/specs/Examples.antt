@@ -7,8 +7,8 @@ use lib.IntN.{ℤ, pos, negsuc}
 use lib.ListN.{length, take}
 use lib.Signed.{leZ}
 use Rattle.units.specs.Limits.{coresLimit}
-use Rattle.lists.specs.Lists.{sum, zeros}
-use Rattle.planning.specs.Plan.{planOf, tableOf}
+use Rattle.lists.specs.Lists.{total, zeros}
+use Rattle.planning.specs.Plan.{planOf, sharesTable}
 use Rattle.lateness.specs.Lateness.{latesOf}
 use Rattle.turn.specs.Turn.{fresh, turns as turnsFrom}
 
@@ -35,11 +35,11 @@ unfoldable pub holds : Example → Bool
 holds (plans m xs l rows lates) =
     eqb (planOf m xs .refusal .no) 0 && eqb (planOf m xs .refusal .task) 0
     && eqb (planOf m xs .plan .common) l
-    && same (same eqb) (map (take m) (take (length rows) (tableOf (planOf m xs .plan)))) rows
+    && same (same eqb) (map (take m) (take (length rows) (sharesTable (planOf m xs .plan)))) rows
     && same sameℤ (take (length lates) (latesOf (planOf m xs .plan))) lates
 holds (takes m xs l) = eqb (planOf m xs .refusal .no) 0 && eqb (planOf m xs .plan .common) l
 holds (refuses m xs n i) = eqb (planOf m xs .refusal .no) n && eqb (planOf m xs .refusal .task) i
-holds (turns ss ks) = same eqb (turnsFrom (length ks) (sum ss) (ss ++ zeros (coresLimit - length ss)) fresh) ks
+holds (turns ss ks) = same eqb (turnsFrom (length ks) (total ss) (ss ++ zeros (coresLimit - length ss)) fresh) ks
 
 -- all of them do
 abbrev pub allHold : List Example → Bool

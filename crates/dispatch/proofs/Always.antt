@@ -7,7 +7,7 @@ use native.Mathlib.Nat.{le-refl, le-trans}
 use native.Mathlib.Omega.{arith}
 use Rattle.dispatch.specs.declared.Record.{Record}
 use Rattle.dispatch.specs.Shape.{Good}
-use Rattle.dispatch.specs.Calls.{Call, release, finish, look, timeOf, refusalOf, step, after}
+use Rattle.dispatch.specs.Calls.{Call, release, finish, look, timeOf, callRefusal, step, after}
 use Rattle.dispatch.proofs.Passed.{release-passed, finish-passed, look-passed}
 use Rattle.dispatch.proofs.Answers.{release-answer, finish-answer, look-answer, release-refused, finish-refused, look-refused, release-taken, finish-taken, look-taken}
 use Rattle.dispatch.proofs.Keeps.{release-good, finish-good, look-good}
@@ -24,28 +24,28 @@ always-good r [] g = g
 always-good r (c ∷ cs) g = always-good (step r c) cs (step-good r c g)
 
 -- a refused call hands back the record that it was given
-pub refused-same : (r : Record) (c : Call) → (refusalOf r c ≡ 0 → ⊥) → step r c ≡ r
+pub refused-same : (r : Record) (c : Call) → (callRefusal r c ≡ 0 → ⊥) → step r c ≡ r
 refused-same r (release i t) n = release-refused r i t (λ e. n (release-answer r i t ∙ e))
 refused-same r (finish i t) n = finish-refused r i t (λ e. n (finish-answer r i t ∙ e))
 refused-same r (look k t) n = look-refused r k t (λ e. n (look-answer r k t ∙ e))
 
 -- an accepted one sets the clock to its time
-pub accepted-clock : (r : Record) (c : Call) → refusalOf r c ≡ 0 → step r c .clock .0 ≡ timeOf c
+pub accepted-clock : (r : Record) (c : Call) → callRefusal r c ≡ 0 → step r c .clock .0 ≡ timeOf c
 accepted-clock r (release i t) e = ap (λ (q : Record). q .clock .0) (release-taken r i t (sym (release-answer r i t) ∙ e))
 accepted-clock r (finish i t) e = ap (λ (q : Record). q .clock .0) (finish-taken r i t (sym (finish-answer r i t) ∙ e))
 accepted-clock r (look k t) e = ap (λ (q : Record). q .clock .0) (look-taken r k t (sym (look-answer r k t) ∙ e))
 
 -- its time is not below the clock
-accepted-time : (r : Record) (c : Call) → refusalOf r c ≡ 0 → r .clock .0 ≤ timeOf c
+accepted-time : (r : Record) (c : Call) → callRefusal r c ≡ 0 → r .clock .0 ≤ timeOf c
 accepted-time r (release i t) e = release-passed r i t (sym (release-answer r i t) ∙ e) .0 .clock
 accepted-time r (finish i t) e = finish-passed r i t (sym (finish-answer r i t) ∙ e) .0 .clock
 accepted-time r (look k t) e = look-passed r k t (sym (look-answer r k t) ∙ e) .clock
 
 -- so the clock never falls
 pub step-clock : (r : Record) (c : Call) → r .clock .0 ≤ step r c .clock .0
-step-clock r c = go (ℕ-discrete (refusalOf r c) 0)
+step-clock r c = go (ℕ-discrete (callRefusal r c) 0)
   where
-    go : Dec (refusalOf r c ≡ 0) → r .clock .0 ≤ step r c .clock .0
+    go : Dec (callRefusal r c ≡ 0) → r .clock .0 ≤ step r c .clock .0
     go (yes e) = omega (arith, accepted-clock r c e, accepted-time r c e)
     go (no n) = rw (refused-same r c n) (le-refl (r .clock .0))
 
@@ -55,16 +55,16 @@ clock-rises r [] = le-refl (r .clock .0)
 clock-rises r (c ∷ cs) = le-trans (step-clock r c) (clock-rises (step r c) cs)
 
 -- the plan never changes
-accepted-plan : (r : Record) (c : Call) → refusalOf r c ≡ 0 → step r c .plan ≡ r .plan
+accepted-plan : (r : Record) (c : Call) → callRefusal r c ≡ 0 → step r c .plan ≡ r .plan
 accepted-plan r (release i t) e = ap (λ (q : Record). q .plan) (release-taken r i t (sym (release-answer r i t) ∙ e))
 accepted-plan r (finish i t) e = ap (λ (q : Record). q .plan) (finish-taken r i t (sym (finish-answer r i t) ∙ e))
 accepted-plan r (look k t) e = ap (λ (q : Record). q .plan) (look-taken r k t (sym (look-answer r k t) ∙ e))
 
 -- so no call changes it
 pub step-plan : (r : Record) (c : Call) → step r c .plan ≡ r .plan
-step-plan r c = go (ℕ-discrete (refusalOf r c) 0)
+step-plan r c = go (ℕ-discrete (callRefusal r c) 0)
   where
-    go : Dec (refusalOf r c ≡ 0) → step r c .plan ≡ r .plan
+    go : Dec (callRefusal r c ≡ 0) → step r c .plan ≡ r .plan
     go (yes e) = accepted-plan r c e
     go (no n) = ap (λ (q : Record). q .plan) (refused-same r c n)
 

@@ -11,7 +11,7 @@ use borrow.Author.Tests.{eq-eqb, ne-eqb}
 use Rattle.units.specs.Limits.{tasksLimit}
 use Rattle.lists.proofs.Tests.{by-cases}
 use Rattle.assignment.proofs.Properties.{upper-found, lower-found}
-use Rattle.planning.specs.Plan.{noLine, rowOf, tableOf}
+use Rattle.planning.specs.Plan.{noLine, rowOf, sharesTable}
 use Rattle.dispatch.specs.declared.Record.{Record}
 use Rattle.dispatch.specs.declared.look.Choice.the-variants.{Idle}
 use Rattle.dispatch.specs.Record.{lineAt, stateAt}
@@ -107,7 +107,7 @@ module _ (r : Record) (g : Good r) (k : ℕ) where
   look-first t e = rw (look-choice r k t e) choice-first
 
   -- a task's row in the table
-  row-at : (i : ℕ) → getD (tableOf (r .plan)) i [] ≡ rowOf (lineAt r i)
+  row-at : (i : ℕ) → getD (sharesTable (r .plan)) i [] ≡ rowOf (lineAt r i)
   row-at i = List·getD-map rowOf (r .plan .lines) i noLine
 
   -- at most one upper mover is on a core

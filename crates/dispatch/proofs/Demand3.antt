@@ -6,7 +6,7 @@ use native.Mathlib.Nat.{add-zero}
 use native.Mathlib.Omega.{arith}
 use lib.ListN.{length, getD}
 use Rattle.units.specs.Limits.{coresLimit}
-use Rattle.lists.specs.Lists.{sum}
+use Rattle.lists.specs.Lists.{total}
 use Rattle.arith.specs.Ceiling.{ceilDiv}
 use Rattle.planning.specs.declared.Line.{Line}
 use Rattle.planning.specs.declared.Plan.{Plan}
@@ -102,7 +102,7 @@ pub shares-alone : (pl pl′ : Plan) → Good (recordOf pl) → Good (recordOf p
     → c < length (coresOf i (recordOf pl) cs) → c < length (coresOf i′ (recordOf pl′) cs′)
     → getD (coresOf i (recordOf pl) cs) c 0 ≡ getD (coresOf i′ (recordOf pl′) cs′) c 0
 shares-alone pl pl′ g g′ i i′ a b a′ b′ e cs cs′ c h h′ =
-    let w : weightOf pl i ≡ weightOf pl′ i′ = sym (lined pl g i a b .shares) ∙ ap sum e ∙ lined pl′ g′ i′ a′ b′ .shares in
+    let w : weightOf pl i ≡ weightOf pl′ i′ = sym (lined pl g i a b .shares) ∙ ap total e ∙ lined pl′ g′ i′ a′ b′ .shares in
     core-of-run pl g i a b cs c h
     ∙ ap₂ (λ (w : ℕ) (ss : List ℕ). coreOfRun w ss c) w e
     ∙ sym (core-of-run pl′ g′ i′ a′ b′ cs′ c h′)

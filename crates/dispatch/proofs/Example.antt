@@ -12,9 +12,9 @@ use Rattle.lists.proofs.Below.{all-at}
 use Rattle.arith.specs.Divisor.{euclid, gcd, lcm}
 use Rattle.arith.specs.Period.{common, periodOf}
 use Rattle.admission.specs.Refusals.{inputTest}
-use Rattle.admission.specs.Admission.{refusalOf}
+use Rattle.admission.specs.Admission.{planRefusal}
 use Rattle.ordering.specs.Order.{order, inOrder}
-use Rattle.assignment.specs.Passes.{blank, sharesOf}
+use Rattle.assignment.specs.Passes.{emptyRows, sharesOf}
 use Rattle.planning.specs.declared.Plan.{Plan}
 use Rattle.planning.specs.Plan.{noLine, emptyLine, emptyPlan, planFor, refusedPlan, takenPlan, planOf}
 use Rattle.soundness.specs.Plan.{planSound}
@@ -37,7 +37,7 @@ plan = planOf 4 (5 ∷ 6 ∷ 4 ∷ 6 ∷ 2 ∷ 3 ∷ 2 ∷ 3 ∷ 2 ∷ 3 ∷ 1 �
 
 -- the definitions that it and the calls compute by
 defs : ℕ
-unfolding plan planOf takenPlan refusedPlan planFor emptyPlan emptyLine refusalOf inputTest common periodOf lcm gcd euclid sharesOf blank order inOrder planSound recordOf freshState soundOf allBelow taskNo lookNo releaseNo finishNo releaseOf takeRelease refuseRelease finishOf takeFinish refuseFinish lookOf withRun withoutRun turnOf coreOf bestFrom counted
+unfolding plan planOf takenPlan refusedPlan planFor emptyPlan emptyLine planRefusal inputTest common periodOf lcm gcd euclid sharesOf emptyRows order inOrder planSound recordOf freshState soundOf allBelow taskNo lookNo releaseNo finishNo releaseOf takeRelease refuseRelease finishOf takeFinish refuseFinish lookOf withRun withoutRun turnOf coreOf bestFrom counted
 defs = 0
 
 -- it is sound

@@ -9,7 +9,7 @@ use lib.ListN.{length, getD, take, length-map, List·getD-map}
 use lib.Seq.{getD-take, length-take-le}
 use borrow.Author.Tests.{eqb-true}
 use Rattle.units.specs.Limits.{tasksLimit, periodLimit, commonLimit}
-use Rattle.lists.specs.Lists.{sum}
+use Rattle.lists.specs.Lists.{total}
 use Rattle.arith.specs.Period.{common}
 use Rattle.arith.proofs.Common.{common-each}
 use Rattle.admission.specs.Weight.{weight}
@@ -30,7 +30,7 @@ weight-range l c t k h m d =
 
 -- what is known of a task's line
 pub record Lined (ln : Line) : Type 0 where
-  pub shares : sum (rowOf ln) ≡ ln .weight .0
+  pub shares : total (rowOf ln) ≡ ln .weight .0
   pub some : 0 < ln .weight .0
   pub small : ln .weight .0 ≤ commonLimit
   pub cost : ln .cost .0 ≤ ln .period .0

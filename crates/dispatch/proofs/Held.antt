@@ -6,7 +6,7 @@ use native.Mathlib.Omega.{arith}
 use lib.Dec.{ltb, eqb}
 use borrow.Author.Tests.{eqb-true, ltb-true, ltb-false, leb-true, lt-ltb, le-ltb, le-leb}
 use Rattle.units.specs.Limits.{tasksLimit, periodLimit, clockLimit}
-use Rattle.lists.specs.Lists.{sum}
+use Rattle.lists.specs.Lists.{total}
 use Rattle.lists.specs.Below.{allBelow}
 use Rattle.lists.proofs.Tests.{by-cases, and-left, and-right, and-true}
 use Rattle.lists.proofs.Below.{all-at, all-from}
@@ -70,7 +70,7 @@ module _ (r : Record) (k : Held r) (i : ℕ) where
   no-run h l =
       let st = stateAt r i in
       let e : stateEmpty st ≡ true = rw (le-ltb i (r .plan .count) h) at (k .states i l) in
-      let a = eqb (sum (st .counts)) 0 && eqb (st .place) 0 && eqb (st .last .0) 0 && not (st .had) in
+      let a = eqb (total (st .counts)) 0 && eqb (st .place) 0 && eqb (st .last .0) 0 && not (st .had) in
       eqb-true (st .live) 0 (and-right a (eqb (st .live) 0) (and-left (a && eqb (st .live) 0) (runsEmpty st) e))
 
   -- a task that waits has a deadline that is small

@@ -11,7 +11,7 @@ use Rattle.dispatch.specs.declared.Record.{Record}
 use Rattle.dispatch.specs.Record.{lineAt, stateAt}
 use Rattle.dispatch.specs.Refusals.{outside, timeNo, taskNo, lookNo, releaseNo, finishNo}
 use Rattle.dispatch.specs.Shape.{Good}
-use Rattle.dispatch.specs.Calls.{Call, release, finish, look, refusalOf, after}
+use Rattle.dispatch.specs.Calls.{Call, release, finish, look, callRefusal, after}
 use Rattle.dispatch.proofs.Answers.{release-answer, finish-answer, look-answer}
 use Rattle.dispatch.proofs.Always.{always-good}
 
@@ -34,7 +34,7 @@ module _ (r : Record) (g : Good r) where
   task-15 i t = rw (g .sound) (number-15 (r .plan .count) 7 i t (λ e. omega arith))
 
   -- none is given for a good record
-  good-15 : (c : Call) → refusalOf r c ≡ 15 → ⊥
+  good-15 : (c : Call) → callRefusal r c ≡ 15 → ⊥
   unfolding releaseNo finishNo lookNo
   good-15 (release i t) e =
       let st = stateAt r (i - 1) in
@@ -53,5 +53,5 @@ module _ (r : Record) (g : Good r) where
       number-15 (r .plan .cores) 13 k t (λ e. omega arith) (rw (g .sound) at (sym (look-answer r k t) ∙ e))
 
 -- 15 is never given
-pub never-15 : (r : Record) (cs : List Call) (c : Call) → Good r → refusalOf (after r cs) c ≡ 15 → ⊥
+pub never-15 : (r : Record) (cs : List Call) (c : Call) → Good r → callRefusal (after r cs) c ≡ 15 → ⊥
 never-15 r cs c g = good-15 (after r cs) (always-good r cs g) c

@@ -9,18 +9,18 @@ use Rattle.dispatch.specs.declared.Record.{Record}
 use Rattle.dispatch.specs.declared.look.Choice.the-variants.{Idle}
 use Rattle.dispatch.specs.Record.{lineAt, stateAt}
 use Rattle.dispatch.specs.Sound.{soundOf}
-use Rattle.dispatch.specs.Refusals.{firstNo, taskNo, lookNo, releaseNo, finishNo}
+use Rattle.dispatch.specs.Refusals.{sharedTests, taskNo, lookNo, releaseNo, finishNo}
 use Rattle.dispatch.specs.Release.{takeRelease, refuseRelease, releaseOf}
 use Rattle.dispatch.specs.Finish.{takeFinish, refuseFinish, finishOf}
 use Rattle.dispatch.specs.Look.{choiceOf, atTime, lookOf}
 
 module _ (r : Record) (i t : ℕ) where
   -- what was tested first, of this record
-  pub task-first : (b : Bool) (n : ℕ) → b ≡ soundOf r → n ≡ firstNo b 7 (r .plan .count) i (r .clock .0) t → n ≡ taskNo r i t
+  pub task-first : (b : Bool) (n : ℕ) → b ≡ soundOf r → n ≡ sharedTests b 7 (r .plan .count) i (r .clock .0) t → n ≡ taskNo r i t
   unfolding taskNo
   task-first b n e q = rw e at q
 
-  pub look-first : (b : Bool) (n : ℕ) → b ≡ soundOf r → n ≡ firstNo b 13 (r .plan .cores) i (r .clock .0) t → n ≡ lookNo r i t
+  pub look-first : (b : Bool) (n : ℕ) → b ≡ soundOf r → n ≡ sharedTests b 13 (r .plan .cores) i (r .clock .0) t → n ≡ lookNo r i t
   unfolding lookNo
   look-first b n e q = rw e at q
 

@@ -11,7 +11,7 @@ use Rattle.task_state.specs.Own.{releaseOwn, finishOwn}
 use Rattle.dispatch.specs.declared.Record.{Record}
 use Rattle.dispatch.specs.Record.{lineAt, stateAt}
 use Rattle.dispatch.specs.Sound.{soundOf}
-use Rattle.dispatch.specs.Refusals.{outside, timeNo, firstNo, taskNo, lookNo, releaseNo, finishNo}
+use Rattle.dispatch.specs.Refusals.{outside, timeNo, sharedTests, taskNo, lookNo, releaseNo, finishNo}
 
 -- no refusal: this test does not apply, and none after it
 gate : (b : Bool) (m n : ℕ) → 0 < m → cond b m n ≡ 0 → (b ≡ false) × (n ≡ 0)
@@ -27,7 +27,7 @@ pub record Passed (r : Record) (n i t : ℕ) : Type 0 where
   pub clock : r .clock .0 ≤ t
 
 -- 15, then 7 or 13, then 12, then 8
-passed : (r : Record) (n m i t : ℕ) → 0 < m → firstNo (soundOf r) m n i (r .clock .0) t ≡ 0 → Passed r n i t
+passed : (r : Record) (n m i t : ℕ) → 0 < m → sharedTests (soundOf r) m n i (r .clock .0) t ≡ 0 → Passed r n i t
 passed r n m i t h e =
     let a = gate (not (soundOf r)) 15 (cond (outside n i) m (timeNo (r .clock .0) t)) (omega arith) e in
     let b = gate (outside n i) m (timeNo (r .clock .0) t) h (a .1) in

@@ -10,14 +10,14 @@ use lib.Seq.{ext-getD}
 use borrow.Author.Tests.{ltb-true, ltb-false, leb-true, eqb-true, eq-eqb, le-ltb}
 use Rattle.units.specs.Limits.{coresLimit, tasksLimit, periodLimit}
 use Rattle.units.proofs.Units.{nums-long}
-use Rattle.lists.specs.Lists.{sum}
-use Rattle.lists.specs.Rows.{count, column, top}
+use Rattle.lists.specs.Lists.{total}
+use Rattle.lists.specs.Rows.{howMany, column, top}
 use Rattle.lists.proofs.Tests.{by-cases, and-left, and-right}
 use Rattle.assignment.specs.Movers.{fixedOn, movesOn, lower}
 use Rattle.assignment.specs.Structure.{CoreKept, Structure}
 use Rattle.planning.specs.declared.Line.{Line}
 use Rattle.planning.specs.declared.Plan.{Plan}
-use Rattle.planning.specs.Plan.{noLine, rowOf, tableOf, weightsOf}
+use Rattle.planning.specs.Plan.{noLine, rowOf, sharesTable, planWeights}
 use Rattle.planning.specs.Kept.{PlanKept}
 use Rattle.soundness.specs.Rules.{lineEmpty, coreWithin, fewMovers, oneFirst, guarded}
 use Rattle.soundness.specs.Plan.{planSound}
@@ -27,7 +27,7 @@ use Rattle.dispatch.proofs.Facts.{lined}
 
 -- what is known of any line, of a task or empty
 record Bounded (ln : Line) : Type 0 where
-  shares : sum (rowOf ln) ≡ ln .weight .0
+  shares : total (rowOf ln) ≡ ln .weight .0
   cost : ln .cost .0 ≤ periodLimit
   period : ln .period .0 ≤ periodLimit
 
@@ -37,11 +37,11 @@ empty-bounded ln e =
     let a = eqb (ln .cost .0) 0 in
     let b = eqb (ln .period .0) 0 in
     let c = eqb (ln .weight .0) 0 in
-    let d = eqb (sum (rowOf ln)) 0 in
+    let d = eqb (total (rowOf ln)) 0 in
     let abc = and-left (a && b && c) d e in
     let ab = and-left (a && b) c abc in
     record {
-      shares = omega (arith, eqb-true (sum (rowOf ln)) 0 (and-right (a && b && c) d e), eqb-true (ln .weight .0) 0 (and-right (a && b) c abc));
+      shares = omega (arith, eqb-true (total (rowOf ln)) 0 (and-right (a && b && c) d e), eqb-true (ln .weight .0) 0 (and-right (a && b) c abc));
       cost = omega (arith, eqb-true (ln .cost .0) 0 (and-left a b ab));
       period = omega (arith, eqb-true (ln .period .0) 0 (and-right a b ab));
     }
@@ -59,7 +59,7 @@ first-says a b e h = rw h at e
 module _ (pl : Plan) (long : PlanShaped pl) (s : planSound pl ≡ true) where
   -- its table of shares
   abbrev tab : List (List ℕ)
-  tab = tableOf pl
+  tab = sharesTable pl
 
   -- its numbers
   n : Numbers pl
@@ -97,19 +97,19 @@ module _ (pl : Plan) (long : PlanShaped pl) (s : planSound pl ≡ true) where
       let w = and-left a b ab in (
         record {
           within = leb-true (column p tab) (pl .common) (and-left load only w);
-          few = leb-true (count (movesOn p) tab) 2 (and-right a b ab);
-          first = λ t. eqb-true (count (lower p) tab) 1 (first-says (eqb (count (movesOn p) tab) 2) (eqb (count (lower p) tab) 1) (and-right (a && b) c abc) (eq-eqb (count (movesOn p) tab) 2 t));
+          few = leb-true (howMany (movesOn p) tab) 2 (and-right a b ab);
+          first = λ t. eqb-true (howMany (lower p) tab) 1 (first-says (eqb (howMany (movesOn p) tab) 2) (eqb (howMany (lower p) tab) 1) (and-right (a && b) c abc) (eq-eqb (howMany (movesOn p) tab) 2 t));
           guarded = leb-true (top (movesOn p) tab) (top (fixedOn p) tab) (and-right (a && b && c) d e);
         },
         λ m. eqb-true (column p tab) 0 (rw (le-ltb p (pl .cores) m) at (and-right load only w)),
       )
 
   -- so the structure is kept
-  structure : Structure (pl .cores) (pl .common) (weightsOf pl) tab
+  structure : Structure (pl .cores) (pl .common) (planWeights pl) tab
   structure = record {
-    sums = ext-getD 0 (map sum tab) (weightsOf pl)
-        (length-map tab sum ∙ length-map (pl .lines) rowOf ∙ sym (length-map (pl .lines) (λ (ln : Line). ln .weight .0)))
-        (λ i h. List·getD-map sum tab i [] ∙ ap sum (List·getD-map rowOf (pl .lines) i noLine) ∙ bounded i .shares ∙ sym (List·getD-map (λ (ln : Line). ln .weight .0) (pl .lines) i noLine));
+    sums = ext-getD 0 (map total tab) (planWeights pl)
+        (length-map tab total ∙ length-map (pl .lines) rowOf ∙ sym (length-map (pl .lines) (λ (ln : Line). ln .weight .0)))
+        (λ i h. List·getD-map total tab i [] ∙ ap total (List·getD-map rowOf (pl .lines) i noLine) ∙ bounded i .shares ∙ sym (List·getD-map (λ (ln : Line). ln .weight .0) (pl .lines) i noLine));
     cores = λ p h. core-kept p (omega (arith, n .cores-few)) .0;
     beyond = λ p h. by-cases (ltb p coresLimit)
         (λ e. core-kept p (ltb-true p coresLimit e) .1 h)

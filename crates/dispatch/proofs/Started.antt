@@ -10,7 +10,7 @@ use Rattle.units.specs.Limits.{tasksLimit}
 use Rattle.units.specs.Units.{share}
 use Rattle.lists.proofs.Tests.{by-cases}
 use Rattle.admission.specs.Weight.{padded}
-use Rattle.admission.specs.Admission.{refusalOf}
+use Rattle.admission.specs.Admission.{planRefusal}
 use Rattle.admission.specs.Words.{commonOf, weightsOf}
 use Rattle.admission.specs.Given.{Taken}
 use Rattle.admission.proofs.Exactly.{exactly-taken}
@@ -49,7 +49,7 @@ plan-shaped m xs t =
 -- so has the plan of an accepted list
 pub started-plan : (m : ℕ) (xs : List ℕ) → planOf m xs .refusal .no ≡ 0 → PlanShaped (planOf m xs .plan)
 started-plan m xs ok =
-    let none : refusalOf m xs .no ≡ 0 = sym (plan-number m xs) ∙ ok in
+    let none : planRefusal m xs .no ≡ 0 = sym (plan-number m xs) ∙ ok in
     subst⁻¹ PlanShaped (taken-plan m xs none) (plan-shaped m xs (exactly-taken m xs .0 none))
 
 -- the record that it starts

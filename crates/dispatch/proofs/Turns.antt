@@ -14,7 +14,7 @@ use Rattle.planning.specs.declared.Line.{Line}
 use Rattle.planning.specs.declared.Plan.{Plan}
 use Rattle.planning.specs.Plan.{noLine, rowOf}
 use Rattle.turn.specs.declared.Turn.{Turn}
-use Rattle.turn.specs.Runs.{after as afterRuns, coreOfRun}
+use Rattle.turn.specs.Runs.{turnAfter as afterRuns, coreOfRun}
 use Rattle.task_state.specs.declared.State.{State}
 use Rattle.task_state.specs.State.{freshState, noState}
 use Rattle.task_state.specs.Runs.{turnAt, withRun, withoutRun}

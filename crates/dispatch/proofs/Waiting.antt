@@ -8,7 +8,7 @@ use lib.Dec.{ltb, eqb}
 use lib.ListN.{getD}
 use borrow.Author.Tests.{ltb-true, ltb-false, le-ltb, eqb-true, eq-eqb, lt-ltb}
 use Rattle.units.specs.Limits.{tasksLimit, runsLimit}
-use Rattle.lists.specs.Lists.{sum, parts, bit}
+use Rattle.lists.specs.Lists.{total, parts, bit}
 use Rattle.lists.specs.Below.{allBelow}
 use Rattle.lists.proofs.Tests.{by-cases, and-left, and-right, and-true}
 use Rattle.lists.proofs.Lists.{getD-le-sum, parts-some}
@@ -31,7 +31,7 @@ use Rattle.dispatch.proofs.Records.{task-sound}
 -- a task that waits has an unfinished run
 empty-waits : (st : State) (k : ℕ) → stateEmpty st ≡ true → waits st k ≡ true → ⊥
 empty-waits st k e w =
-    let a = eqb (sum (st .counts)) 0 && eqb (st .place) 0 && eqb (st .last .0) 0 && not (st .had) in
+    let a = eqb (total (st .counts)) 0 && eqb (st .place) 0 && eqb (st .last .0) 0 && not (st .had) in
     let b = eqb (st .live) 0 in
     let c = allBelow runsLimit (λ j. runEmpty (runAt st j)) in
     let z = eqb-true (st .live) 0 (and-right a b (and-left (a && b) c e)) in

@@ -23,10 +23,10 @@ timeOf (finish i t) = t
 timeOf (look k t) = t
 
 -- the refusal that it answers, 0 if it is accepted
-abbrev pub refusalOf : Record → Call → ℕ
-refusalOf r (release i t) = releaseOf r i t .refusal
-refusalOf r (finish i t) = finishOf r i t .refusal
-refusalOf r (look k t) = lookOf r k t .refusal
+abbrev pub callRefusal : Record → Call → ℕ
+callRefusal r (release i t) = releaseOf r i t .refusal
+callRefusal r (finish i t) = finishOf r i t .refusal
+callRefusal r (look k t) = lookOf r k t .refusal
 
 -- the record that it hands on
 abbrev pub step : Record → Call → Record

@@ -17,8 +17,8 @@ use Rattle.dispatch.specs.Record.{lineAt, stateAt}
 use Rattle.dispatch.specs.Refusals.{lookNo}
 
 -- the better of the best task so far and task i, from 1: lowest task number at a tie
-abbrev pub better : Best → ℕ → Line → State → ℕ → Best
-better b i ln st k =
+abbrev pub betterTask : Best → ℕ → Line → State → ℕ → Best
+betterTask b i ln st k =
     cond (waits st k && (eqb (b .task) 0 || ltb (keyOf ln st k) (b .key)))
     (record { task = i; key = keyOf ln st k })
     b
@@ -26,7 +26,7 @@ better b i ln st k =
 -- the best of the first n tasks
 unfoldable pub bestOf : Record → ℕ → ℕ → Best
 bestOf r k zero = record { task = 0; key = 0 }
-bestOf r k (suc n) = better (bestOf r k n) (suc n) (lineAt r n) (stateAt r n) k
+bestOf r k (suc n) = betterTask (bestOf r k n) (suc n) (lineAt r n) (stateAt r n) k
 
 -- the choice that the best task is, by its deadline: idle, an upper or a lower mover, or a fixed task
 abbrev pub choiceBy : Best → ℕ → Choice

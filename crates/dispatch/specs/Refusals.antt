@@ -17,16 +17,16 @@ abbrev pub timeNo : ℕ → ℕ → ℕ
 timeNo clock t = cond (ltb clockLimit t) 12 (cond (ltb t clock) 8 0)
 
 -- what each call tests first: 15, the number for a wrong task or core i, 12, 8
-abbrev pub firstNo : Bool → ℕ → ℕ → ℕ → ℕ → ℕ → ℕ
-firstNo sound wrong n i clock t = cond (not sound) 15 (cond (outside n i) wrong (timeNo clock t))
+abbrev pub sharedTests : Bool → ℕ → ℕ → ℕ → ℕ → ℕ → ℕ
+sharedTests sound wrong n i clock t = cond (not sound) 15 (cond (outside n i) wrong (timeNo clock t))
 
 -- for a task: 15, 7, 12, 8
 unfoldable pub taskNo : Record → ℕ → ℕ → ℕ
-taskNo r i t = firstNo (soundOf r) 7 (r .plan .count) i (r .clock .0) t
+taskNo r i t = sharedTests (soundOf r) 7 (r .plan .count) i (r .clock .0) t
 
 -- a look, for a core: 15, 13, 12, 8
 unfoldable pub lookNo : Record → ℕ → ℕ → ℕ
-lookNo r k t = firstNo (soundOf r) 13 (r .plan .cores) k (r .clock .0) t
+lookNo r k t = sharedTests (soundOf r) 13 (r .plan .cores) k (r .clock .0) t
 
 -- the first that applies to a release: 15, 7, 12, 8, 9, 10
 unfoldable pub releaseNo : Record → ℕ → ℕ → ℕ

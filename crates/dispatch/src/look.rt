@@ -10,7 +10,7 @@ ghost use mathlib.Core.Bool.{true};
 ghost use Prim.Native.Nat.{_+_, _<_, _≤_};
 ghost use Rattle.units.specs.Limits.{coresLimit, periodLimit, clockLimit};
 ghost use Rattle.task_state.specs.Key.{deadlineOf, waits};
-ghost use Rattle.dispatch.specs.Look.{better as betterOf, choiceBy, lookOf};
+ghost use Rattle.dispatch.specs.Look.{betterTask as betterOf, choiceBy, lookOf};
 
 // Where a mover stands on a core: lower on its first core, upper on any other.
 pub enum Side {

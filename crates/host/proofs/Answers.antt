@@ -8,7 +8,7 @@ use native.Mathlib.Omega.{arith}
 use lib.IntN.{ℤ, pos, negsuc, subℕ}
 use lib.ListN.{length}
 use borrow.Author.Tests.{lt-ltb, eq-eqb, ne-eqb}
-use Rattle.admission.specs.Admission.{refusalOf, admissionOf}
+use Rattle.admission.specs.Admission.{planRefusal, admissionOf}
 use Rattle.admission.specs.declared.admit.Admission.{Admission}
 use Rattle.admission.proofs.Answers.{says-refusal}
 use Rattle.planning.specs.declared.Plan.{Plan}
@@ -42,16 +42,16 @@ answered-length l e = rw (eq-eqb (l .refusal) 0 e)
 
 module _ (m : ℕ) (bytes : List ℕ) where
   -- the numbers held are refused as the table is
-  held-number : refusalOf m (heldOf bytes) .no ≡ admitOf m bytes
+  held-number : planRefusal m (heldOf bytes) .no ≡ admitOf m bytes
   unfolding admitOf
   held-number =
       ⊎-elim
-      (λ e. ap (λ (xs : List ℕ). refusalOf m xs .no) e)
+      (λ e. ap (λ (xs : List ℕ). planRefusal m xs .no) e)
       (λ o. out-same m (heldOf bytes) (tableIn bytes) (o .0) (o .1))
       (held-or bytes)
 
   -- and taken they are the table
-  held-taken : refusalOf m (heldOf bytes) .no ≡ 0 → heldOf bytes ≡ tableIn bytes
+  held-taken : planRefusal m (heldOf bytes) .no ≡ 0 → heldOf bytes ≡ tableIn bytes
   held-taken t = ⊎-elim (λ e. e) (λ o. absurd (out-refused m (heldOf bytes) (o .0) t)) (held-or bytes)
 
   -- admission's number
@@ -72,7 +72,7 @@ module _ (m : ℕ) (bytes : List ℕ) where
         (rw z (ap negative number), rw z)
 
     module _ (t : p .refusal .no ≡ 0) where
-      none : refusalOf m (heldOf bytes) .no ≡ 0
+      none : planRefusal m (heldOf bytes) .no ≡ 0
       none = held-number ∙ sym number ∙ t
 
       plan-is : p .plan ≡ planOf m (tableIn bytes) .plan

@@ -15,7 +15,7 @@ use Rattle.lists.specs.Lists.{zeros}
 use Rattle.lists.proofs.Tests.{by-cases, or-false-right}
 use Rattle.admission.specs.Words.{TableOut}
 use Rattle.host.specs.Host.{numbersOf, tableIn}
-use Rattle.host.specs.Table.{filled, heldOf, tableOf}
+use Rattle.host.specs.Table.{filled, heldOf, heldTable}
 use Rattle.host.specs.declared.bytes.Table.{Table}
 use Rattle.host.proofs.Numbers.{numbers-length}
 
@@ -24,8 +24,8 @@ abbrev pub unread : List ℕ → Bool
 unread bytes = not (eqb (length bytes % 8) 0) || ltb (8 * tasksLimit) (length bytes)
 
 -- then no number is held
-pub none-held : (bytes : List ℕ) → unread bytes ≡ true → record { numbers = zeros (2 * tasksLimit); count = 0 } ≡ tableOf bytes
-unfolding tableOf heldOf
+pub none-held : (bytes : List ℕ) → unread bytes ≡ true → record { numbers = zeros (2 * tasksLimit); count = 0 } ≡ heldTable bytes
+unfolding heldTable heldOf
 none-held bytes e = rw e
 
 -- else there is room for all
@@ -34,8 +34,8 @@ room bytes e = ltb-false (8 * tasksLimit) (length bytes) (or-false-right (not (e
 
 -- and all are held
 pub all-held : (bytes : List ℕ) → unread bytes ≡ false → (xs : List ℕ) → xs ≡ filled (numbersOf bytes)
-    → record { numbers = xs; count = length bytes / 4 } ≡ tableOf bytes
-unfolding tableOf heldOf
+    → record { numbers = xs; count = length bytes / 4 } ≡ heldTable bytes
+unfolding heldTable heldOf
 all-held bytes e xs f = rw (e, f, numbers-length bytes)
 
 -- no more than there is room for
@@ -44,15 +44,15 @@ unfolding heldOf
 held-few bytes = by-cases (unread bytes) (λ e. rw e (omega arith)) (λ e. rw e (omega (arith, numbers-length bytes, room bytes e)))
 
 -- the part of the array that is handed to planning lies in it
-pub part-within : (bytes : List ℕ) (t : Table) → t ≡ tableOf bytes → t .count ≤ length (t .numbers)
-unfolding tableOf
+pub part-within : (bytes : List ℕ) (t : Table) → t ≡ heldTable bytes → t .count ≤ length (t .numbers)
+unfolding heldTable
 part-within bytes t e =
     let xs = heldOf bytes in
     rw e (omega (arith, length-append xs (zeros (2 * tasksLimit - length xs)), held-few bytes))
 
 -- and is the numbers held
-pub part : (bytes : List ℕ) (t : Table) → t ≡ tableOf bytes → take (t .count - 0) (drop 0 (t .numbers)) ≡ heldOf bytes
-unfolding tableOf
+pub part : (bytes : List ℕ) (t : Table) → t ≡ heldTable bytes → take (t .count - 0) (drop 0 (t .numbers)) ≡ heldOf bytes
+unfolding heldTable
 part bytes t e = rw (e, sub-zero (length (heldOf bytes))) (take-append-seam (heldOf bytes) (zeros (2 * tasksLimit - length (heldOf bytes))))
 
 -- they are the table's numbers, or planning refuses both by the same test

@@ -9,7 +9,7 @@ use lib.Dec.{eqb, ltb}
 use borrow.Author.Tests.{eqb-true, eqb-false, ltb-true, ltb-false}
 use Rattle.units.specs.Limits.{coresLimit}
 use Rattle.lists.proofs.Tests.{by-cases}
-use Rattle.admission.specs.Admission.{refusalOf}
+use Rattle.admission.specs.Admission.{planRefusal}
 use Rattle.admission.specs.Words.{CoresIn, CoresOut, TableOut}
 use Rattle.admission.specs.Given.{one, two}
 use Rattle.admission.proofs.Gives.{gives-no}
@@ -28,11 +28,11 @@ cores m =
     (λ h. inr (pos-of-ne-zero (eqb-false m 0 e), ltb-false coresLimit m h)))
 
 -- such a table is refused so
-pub out : (m : ℕ) (xs : List ℕ) → TableOut xs → OneOrTwo m (refusalOf m xs .no)
+pub out : (m : ℕ) (xs : List ℕ) → TableOut xs → OneOrTwo m (planRefusal m xs .no)
 out m xs o = (λ c. gives-no m xs (one c), λ c. gives-no m xs (two c o))
 
 -- two such tables are refused by the same number
-pub out-same : (m : ℕ) (xs ys : List ℕ) → TableOut xs → TableOut ys → refusalOf m xs .no ≡ refusalOf m ys .no
+pub out-same : (m : ℕ) (xs ys : List ℕ) → TableOut xs → TableOut ys → planRefusal m xs .no ≡ planRefusal m ys .no
 out-same m xs ys o p =
     ⊎-elim
     (λ c. out m xs o .0 c ∙ sym (out m ys p .0 c))
@@ -40,7 +40,7 @@ out-same m xs ys o p =
     (cores m)
 
 -- and neither is taken
-pub out-refused : (m : ℕ) (xs : List ℕ) → TableOut xs → refusalOf m xs .no ≡ 0 → ⊥
+pub out-refused : (m : ℕ) (xs : List ℕ) → TableOut xs → planRefusal m xs .no ≡ 0 → ⊥
 out-refused m xs o e =
     ⊎-elim
     (λ c. omega (arith, out m xs o .0 c, e))

@@ -6,7 +6,7 @@ use native.Mathlib.Omega.{arith}
 use lib.Dec.{leb}
 use lib.ListN.{length}
 use Rattle.lists.proofs.Tests.{by-cases}
-use Rattle.admission.specs.Admission.{refusalOf}
+use Rattle.admission.specs.Admission.{planRefusal}
 use Rattle.planning.specs.Plan.{planOf}
 use Rattle.soundness.proofs.Taken.{plan-number}
 use Rattle.soundness.proofs.PlannedSound.{plan-sound}
@@ -16,7 +16,7 @@ use Rattle.listing.specs.Listing.{listingText}
 use Rattle.listing.specs.Listed.{planListed}
 use Rattle.listing.proofs.Fits.{listing-length}
 
-module _ (m : ℕ) (xs : List ℕ) (t : refusalOf m xs .no ≡ 0) where
+module _ (m : ℕ) (xs : List ℕ) (t : planRefusal m xs .no ≡ 0) where
   -- 15,960 bytes at most
   pub listing-short : length (listingText (planOf m xs .plan)) ≤ 15960
   listing-short = listing-length (planOf m xs .plan) (started-plan m xs (plan-number m xs ∙ t)) (plan-sound m xs t)

@@ -5,7 +5,7 @@ use mathlib.Core.List.{List, [], _∷_}
 use lib.Dec.{eqb}
 use lib.IntN.{ℤ, pos, negℤ}
 use lib.ListN.{length}
-use Rattle.admission.specs.Admission.{refusalOf}
+use Rattle.admission.specs.Admission.{planRefusal}
 use Rattle.planning.specs.Plan.{planOf}
 use Rattle.listing.specs.declared.listed.Listed.{Listed}
 use Rattle.listing.specs.Listed.{planListed, planAfter}
@@ -28,7 +28,7 @@ tableIn bytes = cond (eqb (length bytes % 8) 0) (numbersOf bytes) []
 
 -- the admission number: 0 or a refusal
 unfoldable pub admitOf : ℕ → List ℕ → ℕ
-admitOf m bytes = refusalOf m (tableIn bytes) .no
+admitOf m bytes = planRefusal m (tableIn bytes) .no
 
 -- a refusal number made negative
 abbrev pub negative : ℕ → ℤ

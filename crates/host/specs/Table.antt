@@ -10,8 +10,8 @@ use Rattle.host.specs.Host.{number, numbersOf}
 use Rattle.host.specs.declared.bytes.Table.{Table}
 
 -- number k of a table, from 0
-abbrev pub numberAt : List ℕ → ℕ → ℕ
-numberAt bytes k = number (getD bytes (4 * k) 0) (getD bytes (4 * k + 1) 0) (getD bytes (4 * k + 2) 0) (getD bytes (4 * k + 3) 0)
+abbrev pub number32At : List ℕ → ℕ → ℕ
+number32At bytes k = number (getD bytes (4 * k) 0) (getD bytes (4 * k + 1) 0) (getD bytes (4 * k + 2) 0) (getD bytes (4 * k + 3) 0)
 
 -- a table's numbers, then zeros
 abbrev pub filled : List ℕ → List ℕ
@@ -22,5 +22,5 @@ unfoldable pub heldOf : List ℕ → List ℕ
 heldOf bytes = cond (not (eqb (length bytes % 8) 0) || ltb (8 * tasksLimit) (length bytes)) [] (numbersOf bytes)
 
 -- those numbers and how many they are
-unfoldable pub tableOf : List ℕ → Table
-tableOf bytes = record { numbers = filled (heldOf bytes); count = length (heldOf bytes) }
+unfoldable pub heldTable : List ℕ → Table
+heldTable bytes = record { numbers = filled (heldOf bytes); count = length (heldOf bytes) }

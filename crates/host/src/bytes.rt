@@ -5,7 +5,7 @@ ghost use Prim.Native.Nat.{_+_, _*_, _≤_, _<_};
 ghost use lib.ListN.{length};
 ghost use Rattle.units.specs.Limits.{tasksLimit};
 ghost use Rattle.host.specs.Host.{number, numbersOf};
-ghost use Rattle.host.specs.Table.{numberAt, filled, tableOf};
+ghost use Rattle.host.specs.Table.{number32At, filled, heldTable};
 
 // Numbers from the front, then zeros, and how many they are.
 pub struct Table {
@@ -23,7 +23,7 @@ fn number_of(a: u8, b: u8, c: u8, d: u8) -> u32
 // Number k, from 0.
 fn number_at(bytes: &[u8], k: usize) -> u32
     requires { ⌜ 4 * k + 3 < length (now bytes) ⌝ }
-    ensures { λ r. ⌜ r ≡ numberAt (now (bytes .entry)) k ⌝ }
+    ensures { λ r. ⌜ r ≡ number32At (now (bytes .entry)) k ⌝ }
 {
     let at = 4 * k;
     let a = bytes[at];
@@ -51,7 +51,7 @@ fn numbers_of(bytes: &[u8]) -> [u32; 2 * TASKS]
 
 // A table's numbers; none where it ends inside a task or has over 64 tasks, which planning refuses alike.
 pub fn table_of(bytes: &[u8]) -> Table
-    ensures { λ r. ⌜ r ≡ tableOf (now (bytes .entry)) ⌝ }
+    ensures { λ r. ⌜ r ≡ heldTable (now (bytes .entry)) ⌝ }
 {
     let n = bytes.len();
     if (n % 8 != 0) | (8 * TASKS < n) {

@@ -12,14 +12,14 @@ use borrow.Author.Tests.{ltb-true, ltb-false}
 use lib.IntN.{subℕ}
 use Rattle.units.specs.Limits.{coresLimit}
 use Rattle.lists.specs.Lists.{parts, seek}
-use Rattle.lists.specs.Rows.{count}
+use Rattle.lists.specs.Rows.{howMany}
 use Rattle.lists.proofs.Tests.{by-cases}
 use Rattle.assignment.specs.Movers.{moves, firstCore, upper, lower}
 use Rattle.assignment.proofs.Words.{upper-first}
 use Rattle.assignment.proofs.Properties.{lower-found}
 use Rattle.planning.specs.declared.Line.{Line}
 use Rattle.planning.specs.declared.Plan.{Plan}
-use Rattle.planning.specs.Plan.{emptyLine, noLine, rowOf, tableOf}
+use Rattle.planning.specs.Plan.{emptyLine, noLine, rowOf, sharesTable}
 use Rattle.planning.specs.Kept.{PlanKept}
 use Rattle.lateness.specs.Lateness.{first, upperOn, lowerOn, reachOf, reachOn, reaches, late}
 use Rattle.lateness.proofs.Front.{first-there, lower-at}
@@ -33,7 +33,7 @@ module _ (f : List ℕ → Bool) where
   first-cases (ln ∷ lns) = by-cases (f (rowOf ln)) (λ e. rw e (inl e)) (λ e. rw e (first-cases lns))
 
   -- if no line does there is none
-  first-none : (lns : List Line) → count f (map rowOf lns) ≡ 0 → first (λ ln. f (rowOf ln)) lns ≡ emptyLine
+  first-none : (lns : List Line) → howMany f (map rowOf lns) ≡ 0 → first (λ ln. f (rowOf ln)) lns ≡ emptyLine
   first-none [] e = refl
   first-none (ln ∷ lns) e =
       by-cases (f (rowOf ln))
@@ -131,7 +131,7 @@ module _ (pl : Plan) (k : PlanKept pl) where
   pub mover-alone : (i : ℕ) →
       let ln = getD (pl .lines) i noLine in
       let p = firstCore (rowOf ln) in
-      moves (rowOf ln) ≡ true → count (upper p) (tableOf pl) ≡ 0
+      moves (rowOf ln) ≡ true → howMany (upper p) (sharesTable pl) ≡ 0
       → late (pl .common) (planReaches pl) (pl .lines) ln ≡ subℕ (ln .cost .0) (ln .period .0)
   mover-alone i e z =
       let ln : Line = getD (pl .lines) i noLine in

@@ -9,7 +9,7 @@ use lib.ListN.{getD}
 use Rattle.units.specs.Limits.{coresLimit}
 use Rattle.units.proofs.Units.{nums-units}
 use Rattle.lists.specs.Lists.{zeros, val, seek}
-use Rattle.lists.specs.Rows.{count}
+use Rattle.lists.specs.Rows.{howMany}
 use Rattle.lists.proofs.Tests.{by-cases}
 use Rattle.lists.proofs.Lists.{zeros-at}
 use Rattle.assignment.specs.Movers.{movesOn, firstCore, upper, lower}
@@ -47,7 +47,7 @@ module _ (f : List ℕ → Bool) where
   over g (ln ∷ lns) = val (f (rowOf ln)) (g ln) + over g lns
 
   -- if none passes it is 0
-  over-none : (g : Line → ℕ) (lns : List Line) → count f (map rowOf lns) ≡ 0 → over g lns ≡ 0
+  over-none : (g : Line → ℕ) (lns : List Line) → howMany f (map rowOf lns) ≡ 0 → over g lns ≡ 0
   over-none g [] e = refl
   over-none g (ln ∷ lns) e =
       by-cases (f (rowOf ln))
@@ -55,12 +55,12 @@ module _ (f : List ℕ → Bool) where
       (λ t. rw t (omega (arith, over-none g lns (omega (arith, rw t at e)))))
 
   -- if no more than one does it is that one's
-  over-one : (g : Line → ℕ) → g emptyLine ≡ 0 → (lns : List Line) → count f (map rowOf lns) ≤ 1
+  over-one : (g : Line → ℕ) → g emptyLine ≡ 0 → (lns : List Line) → howMany f (map rowOf lns) ≤ 1
       → over g lns ≡ g (first (λ ln. f (rowOf ln)) lns)
   over-one g z [] k = sym z
   over-one g z (ln ∷ lns) k =
       by-cases (f (rowOf ln))
-      (λ t. let n : count f (map rowOf lns) ≡ 0 = omega (arith, rw t at k) in rw t (omega (arith, over-none g lns n)))
+      (λ t. let n : howMany f (map rowOf lns) ≡ 0 = omega (arith, rw t at k) in rw t (omega (arith, over-none g lns n)))
       (λ t. rw t (omega (arith, over-one g z lns (omega (arith, rw t at k)))))
 
 -- a test and its contrary
@@ -75,12 +75,12 @@ module _ (p : ℕ) (g : Line → ℕ) where
   over-split (ln ∷ lns) = omega (arith, val-split (movesOn p (rowOf ln)) (eqb (firstCore (rowOf ln)) p) (g ln), over-split lns)
 
   -- a sum over the movers
-  pub over-pair : g emptyLine ≡ 0 → (lns : List Line) → count (upper p) (map rowOf lns) ≤ 1 → count (lower p) (map rowOf lns) ≤ 1
+  pub over-pair : g emptyLine ≡ 0 → (lns : List Line) → howMany (upper p) (map rowOf lns) ≤ 1 → howMany (lower p) (map rowOf lns) ≤ 1
       → overMovers p g lns ≡ g (upperOn p lns) + g (lowerOn p lns)
   over-pair z lns u w = omega (arith, over-split lns, over-one (upper p) g z lns u, over-one (lower p) g z lns w)
 
   -- of no mover it is 0
-  pub over-nobody : (lns : List Line) → count (movesOn p) (map rowOf lns) ≡ 0 → overMovers p g lns ≡ 0
+  pub over-nobody : (lns : List Line) → howMany (movesOn p) (map rowOf lns) ≡ 0 → overMovers p g lns ≡ 0
   over-nobody lns e =
       let n = count-movers p (map rowOf lns) in
       omega (arith, over-split lns, over-none (upper p) g lns (omega arith), over-none (lower p) g lns (omega arith))

@@ -5,7 +5,7 @@ use mathlib.Core.List.{List, map}
 use native.Mathlib.Omega.{arith}
 use native.Mathlib.Nat.{le-of-mul-le-mul-right}
 use lib.IntN.{pos, subℕ, _+ℤ_, _*ℤ_, -ℤ-+ℤ-cancel, +ℤ-assoc}
-use Rattle.lists.specs.Rows.{count}
+use Rattle.lists.specs.Rows.{howMany}
 use Rattle.arith.specs.Ceiling.{ceilDiv}
 use Rattle.arith.proofs.Rounding.{ceil-least}
 use Rattle.assignment.specs.Movers.{movesOn}
@@ -43,7 +43,7 @@ reach-alone l h rs p ln =
     ap₂ ceilDiv (omega (arith, empty-load rs p l)) (omega (arith, empty-share p)) ∙ ceil-mul l (ln .cost .0) h
 
 -- with no mover on their core the bound of fixed tasks is 0
-pub fixed-alone : (l : ℕ) → 0 < l → (rs : List ℕ) (lns : List Line) (p : ℕ) → count (movesOn p) (map rowOf lns) ≡ 0 → fixedLate l rs lns p ≡ 0
+pub fixed-alone : (l : ℕ) → 0 < l → (rs : List ℕ) (lns : List Line) (p : ℕ) → howMany (movesOn p) (map rowOf lns) ≡ 0 → fixedLate l rs lns p ≡ 0
 unfolding fixedLate
 fixed-alone l h rs lns p e =
     let work = over-nobody p (λ ln. push rs p ln + l * (2 * ln .cost .0)) lns e in

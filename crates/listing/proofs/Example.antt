@@ -7,9 +7,9 @@ use Rattle.planning.specs.declared.Plan.{Plan}
 use Rattle.arith.specs.Divisor.{euclid, gcd, lcm}
 use Rattle.arith.specs.Period.{common, periodOf}
 use Rattle.admission.specs.Refusals.{inputTest}
-use Rattle.admission.specs.Admission.{refusalOf}
+use Rattle.admission.specs.Admission.{planRefusal}
 use Rattle.ordering.specs.Order.{order, inOrder}
-use Rattle.assignment.specs.Passes.{blank, sharesOf}
+use Rattle.assignment.specs.Passes.{emptyRows, sharesOf}
 use Rattle.planning.specs.Plan.{emptyLine, emptyPlan, planFor, refusedPlan, takenPlan, planOf}
 use Rattle.lateness.specs.Lateness.{reachOn, reaches, fixedLate, late, latesOf}
 use Rattle.listing.specs.Listing.{headText, rowText, lateText, taskText, tasksText, listingText}
@@ -27,5 +27,5 @@ pub listing : listingText plan ≡
     ++ ascii "task 4 cost 2 period 3 weight 4 fixed 4:4 late 8\n"
     ++ ascii "task 5 cost 2 period 3 weight 4 moves 1:1 2:2 3:1 late -1\n"
     ++ ascii "task 6 cost 1 period 2 weight 3 moves 3:1 4:2 late 5\n"
-unfolding planOf takenPlan refusedPlan planFor emptyPlan emptyLine refusalOf inputTest common periodOf lcm gcd euclid sharesOf blank order inOrder reachOn reaches fixedLate late latesOf decimalF decimalOf signedOf headText rowText lateText taskText tasksText listingText
+unfolding planOf takenPlan refusedPlan planFor emptyPlan emptyLine planRefusal inputTest common periodOf lcm gcd euclid sharesOf emptyRows order inOrder reachOn reaches fixedLate late latesOf decimalF decimalOf signedOf headText rowText lateText taskText tasksText listingText
 listing = refl

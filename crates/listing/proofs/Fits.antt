@@ -11,7 +11,7 @@ use lib.ListN.{length, getD, length-append}
 use borrow.Author.Tests.{leb-true, le-leb}
 use Rattle.units.specs.Limits.{coresLimit, tasksLimit, periodLimit, commonLimit}
 use Rattle.units.proofs.Units.{nums-long}
-use Rattle.lists.specs.Lists.{sum}
+use Rattle.lists.specs.Lists.{total}
 use Rattle.lists.proofs.Tests.{by-cases}
 use Rattle.writing.specs.Ascii.{ascii}
 use Rattle.writing.specs.Decimal.{decimalOf, signedOf}
@@ -41,14 +41,14 @@ share-length p s h k =
     (λ e. rw (e, length-append (field " " p) (field ":" s)) (omega (arith, decimal-length 1 p (omega arith), decimal-length 6 s (omega arith))))
 
 -- a row of such shares
-shares-length : (p : ℕ) (ss : List ℕ) → p + length ss ≤ suc coresLimit → sum ss ≤ commonLimit → length (sharesText p ss) ≤ 11 * length ss
+shares-length : (p : ℕ) (ss : List ℕ) → p + length ss ≤ suc coresLimit → total ss ≤ commonLimit → length (sharesText p ss) ≤ 11 * length ss
 shares-length p [] h k = omega arith
 shares-length p (s ∷ ss) h k =
     rw (length-append (shareText p s) (sharesText (suc p) ss))
     (omega (arith, share-length p s (omega arith) (omega arith), shares-length (suc p) ss (omega arith) (omega arith)))
 
 -- whether a task moves, and its shares
-row-length : (row : List ℕ) → length row ≤ coresLimit → sum row ≤ commonLimit → length (rowText row) ≤ 182
+row-length : (row : List ℕ) → length row ≤ coresLimit → total row ≤ commonLimit → length (rowText row) ≤ 182
 unfolding rowText
 row-length row h k =
     by-cases (moves row)

@@ -11,7 +11,7 @@ use lib.Seq.{ext-getD}
 use borrow.Author.Tests.{eqb-true, le-ltb}
 use Rattle.units.specs.Limits.{coresLimit, tasksLimit}
 use Rattle.units.proofs.Units.{nums-long, nums-units}
-use Rattle.lists.specs.Lists.{zeros, sum}
+use Rattle.lists.specs.Lists.{zeros, total}
 use Rattle.lists.proofs.Tests.{and-left, and-right}
 use Rattle.writing.specs.Ascii.{newline}
 use Rattle.writing.specs.Field.{field}
@@ -128,14 +128,14 @@ empty-is a long e =
     let c = eqb (a .cost .0) 0 in
     let t = eqb (a .period .0) 0 in
     let w = eqb (a .weight .0) 0 in
-    let r = eqb (sum (rowOf a)) 0 in
+    let r = eqb (total (rowOf a)) 0 in
     let ctw = and-left (c && t && w) r e in
     let ct = and-left (c && t) w ctw in
     line-same a emptyLine
     (eqb-true (a .cost .0) 0 (and-left c t ct))
     (eqb-true (a .period .0) 0 (and-right c t ct))
     (eqb-true (a .weight .0) 0 (and-right (c && t) w ctw))
-    (zero-row (rowOf a) (eqb-true (sum (rowOf a)) 0 (and-right (c && t && w) r e))
+    (zero-row (rowOf a) (eqb-true (total (rowOf a)) 0 (and-right (c && t && w) r e))
     ∙ ap zeros (nums-long (a .shares) coresLimit long)
     ∙ sym (nums-units (zeros coresLimit)))
 

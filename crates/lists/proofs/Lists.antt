@@ -9,29 +9,29 @@ use native.Mathlib.Nat.{sub-zero, zero-sub, suc-sub-suc}
 use lib.Dec.{ltb, leb, eqb, eqb·suc-zero}
 use lib.ListN.{length, getD, take, drop, set}
 use borrow.Author.Tests.{ltb-true, ltb-false, lt-ltb, le-ltb, leb-true, leb-false, eqb-true, eqb-false}
-use Rattle.lists.specs.Lists.{zeros, sum, most, atMost, parts, bit}
+use Rattle.lists.specs.Lists.{zeros, total, most, atMost, parts, bit}
 use Rattle.lists.proofs.Tests.{by-cases, bit-cases}
 
 -- the sum of the first p + 1 numbers
-pub sum-take-suc : (xs : List ℕ) (p : ℕ) → sum (take (suc p) xs) ≡ sum (take p xs) + getD xs p 0
+pub sum-take-suc : (xs : List ℕ) (p : ℕ) → total (take (suc p) xs) ≡ total (take p xs) + getD xs p 0
 sum-take-suc [] zero = refl
 sum-take-suc [] (suc p) = refl
 sum-take-suc (x ∷ xs) zero = omega arith
 sum-take-suc (x ∷ xs) (suc p) = omega (arith, sum-take-suc xs p)
 
 -- the sum of both ends of a list
-pub sum-ends : (xs : List ℕ) (p : ℕ) → sum (take p xs) + sum (drop p xs) ≡ sum xs
+pub sum-ends : (xs : List ℕ) (p : ℕ) → total (take p xs) + total (drop p xs) ≡ total xs
 sum-ends [] zero = refl
 sum-ends [] (suc p) = refl
 sum-ends (x ∷ xs) zero = omega arith
 sum-ends (x ∷ xs) (suc p) = omega (arith, sum-ends xs p)
 
-pub sum-set : (xs : List ℕ) (p v : ℕ) → p < length xs → sum (set xs p v) + getD xs p 0 ≡ sum xs + v
+pub sum-set : (xs : List ℕ) (p v : ℕ) → p < length xs → total (set xs p v) + getD xs p 0 ≡ total xs + v
 sum-set [] p v h = absurd (omega arith)
 sum-set (x ∷ xs) zero v h = omega arith
 sum-set (x ∷ xs) (suc p) v h = omega (arith, sum-set xs p v (omega arith))
 
-pub getD-le-sum : (xs : List ℕ) (p : ℕ) → getD xs p 0 ≤ sum xs
+pub getD-le-sum : (xs : List ℕ) (p : ℕ) → getD xs p 0 ≤ total xs
 getD-le-sum [] p = omega arith
 getD-le-sum (x ∷ xs) zero = omega arith
 getD-le-sum (x ∷ xs) (suc p) = omega (arith, getD-le-sum xs p)
@@ -82,7 +82,7 @@ zeros-drop m zero = rw (sub-zero m)
 zeros-drop zero (suc p) = rw (zero-sub (suc p))
 zeros-drop (suc m) (suc p) = rw (suc-sub-suc m p) (zeros-drop m p)
 
-pub zeros-sum : (m : ℕ) → sum (zeros m) ≡ 0
+pub zeros-sum : (m : ℕ) → total (zeros m) ≡ 0
 zeros-sum zero = refl
 zeros-sum (suc m) = omega (arith, zeros-sum m)
 
@@ -98,7 +98,7 @@ pub parts-cons : (x : ℕ) (r : List ℕ) → parts (x ∷ r) ≡ bit (ltb 0 x) 
 parts-cons zero r = omega arith
 parts-cons (suc x) r = rw (eqb·suc-zero x, lt-ltb 0 (suc x) (omega arith)) (omega arith)
 
-pub parts-le : (r : List ℕ) → parts r ≤ sum r
+pub parts-le : (r : List ℕ) → parts r ≤ total r
 parts-le [] = omega arith
 parts-le (x ∷ r) =
     ⊎-elim
@@ -106,7 +106,7 @@ parts-le (x ∷ r) =
     (λ h. omega (arith, parts-cons x r, parts-le r))
     (bit-cases (ltb 0 x))
 
-pub parts-some : (r : List ℕ) → 0 < sum r → 0 < parts r
+pub parts-some : (r : List ℕ) → 0 < total r → 0 < parts r
 parts-some [] h = h
 parts-some (x ∷ r) h =
     ⊎-elim
@@ -122,8 +122,8 @@ parts-most (x ∷ r) h =
     (λ k. omega (arith, parts-most r (omega (arith, parts-cons x r))))
     (bit-cases (ltb 0 x))
 
-pub parts-none : (r : List ℕ) → parts r ≡ 0 → sum r ≡ 0
-parts-none r e = by-cases (ltb 0 (sum r)) (λ h. absurd (omega (arith, parts-some r (ltb-true 0 (sum r) h)))) (λ h. omega (arith, ltb-false 0 (sum r) h))
+pub parts-none : (r : List ℕ) → parts r ≡ 0 → total r ≡ 0
+parts-none r e = by-cases (ltb 0 (total r)) (λ h. absurd (omega (arith, parts-some r (ltb-true 0 (total r) h)))) (λ h. omega (arith, ltb-false 0 (total r) h))
 
 pub parts-set : (ws : List ℕ) (t : ℕ) → 0 < getD ws t 0 → suc (parts (set ws t 0)) ≡ parts ws
 parts-set [] t h = absurd (omega arith)

@@ -6,8 +6,8 @@ use mathlib.Core.Bool.{Bool, true}
 use mathlib.Core.List.{List, [], _∷_}
 use native.Mathlib.Omega.{arith}
 use lib.ListN.{length, getD}
-use Rattle.lists.specs.Lists.{sum, bit, val, seek}
-use Rattle.lists.specs.Rows.{fold, count, column, columnOf, top}
+use Rattle.lists.specs.Lists.{total, bit, val, seek}
+use Rattle.lists.specs.Rows.{fold, howMany, column, columnOf, top}
 use Rattle.lists.proofs.Tests.{by-cases}
 
 -- its number on core p
@@ -24,13 +24,13 @@ module _ (f : List ℕ → Bool) where
   columnOf-at p (r ∷ tab) (suc i) e = omega (arith, columnOf-at p tab i e)
 
   -- its sum, if it passes a test
-  pub top-at : (tab : List (List ℕ)) (i : ℕ) → f (getD tab i []) ≡ true → sum (getD tab i []) ≤ top f tab
+  pub top-at : (tab : List (List ℕ)) (i : ℕ) → f (getD tab i []) ≡ true → total (getD tab i []) ≤ top f tab
   top-at [] i e = omega arith
   top-at (r ∷ tab) zero e = rw e (omega arith)
   top-at (r ∷ tab) (suc i) e = omega (arith, top-at tab i e)
 
   -- the largest sum is part of all
-  pub top-sum : (tab : List (List ℕ)) → top f tab ≤ fold _+_ (λ r. val (f r) (sum r)) tab
+  pub top-sum : (tab : List (List ℕ)) → top f tab ≤ fold _+_ (λ r. val (f r) (total r)) tab
   top-sum [] = omega arith
   top-sum (r ∷ tab) = omega (arith, top-sum tab)
 
@@ -40,13 +40,13 @@ module _ (f : List ℕ → Bool) where
   seek-at (r ∷ tab) = by-cases (f r) (λ e. rw e (inl e)) (λ e. rw e (seek-at tab))
 
   -- a row that passes is counted
-  count-at : (tab : List (List ℕ)) (i : ℕ) → i < length tab → f (getD tab i []) ≡ true → 0 < count f tab
+  count-at : (tab : List (List ℕ)) (i : ℕ) → i < length tab → f (getD tab i []) ≡ true → 0 < howMany f tab
   count-at [] i h e = absurd (omega arith)
   count-at (r ∷ tab) zero h e = rw e (omega arith)
   count-at (r ∷ tab) (suc i) h e = omega (arith, count-at tab i (omega arith) e)
 
   -- the only row that passes is the one that is sought
-  pub seek-only : (tab : List (List ℕ)) (i : ℕ) → count f tab ≤ 1 → i < length tab → f (getD tab i []) ≡ true → seek f tab ≡ i
+  pub seek-only : (tab : List (List ℕ)) (i : ℕ) → howMany f tab ≤ 1 → i < length tab → f (getD tab i []) ≡ true → seek f tab ≡ i
   seek-only [] i c h e = absurd (omega arith)
   seek-only (r ∷ tab) zero c h e = rw e
   seek-only (r ∷ tab) (suc i) c h e =

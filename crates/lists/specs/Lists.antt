@@ -10,9 +10,9 @@ abbrev pub zeros : ℕ → List ℕ
 zeros n = replicate n 0
 
 -- the sum
-abbrev pub sum : List ℕ → ℕ
-sum [] = 0
-sum (x ∷ xs) = x + sum xs
+abbrev pub total : List ℕ → ℕ
+total [] = 0
+total (x ∷ xs) = x + total xs
 
 -- the largest number, 0 of none
 abbrev pub most : List ℕ → ℕ

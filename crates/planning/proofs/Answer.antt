@@ -10,7 +10,7 @@ use Rattle.units.proofs.Units.{nums-units}
 use Rattle.arith.specs.Period.{periods, common}
 use Rattle.admission.specs.Weight.{weights, padded}
 use Rattle.admission.specs.Refusals.{taken}
-use Rattle.admission.specs.Admission.{refusalOf, refusedWith, takenWith, admissionOf}
+use Rattle.admission.specs.Admission.{planRefusal, refusedWith, takenWith, admissionOf}
 use Rattle.admission.specs.declared.admit.Admission.{Admission}
 use Rattle.admission.specs.declared.refusals.Refusal.{Refusal}
 use Rattle.admission.proofs.Admitting.{passed}
@@ -20,18 +20,18 @@ use Rattle.planning.specs.declared.Plan.{Plan}
 use Rattle.planning.specs.Plan.{planFor, refusedPlan, takenPlan, planOf}
 
 module _ (m : ℕ) (xs : List ℕ) (a : Admission) (e : a ≡ admissionOf m xs) where
-  number : a .refusal .no ≡ refusalOf m xs .no
+  number : a .refusal .no ≡ planRefusal m xs .no
   number = ap (λ (x : Admission). x .refusal .no) e ∙ says-refusal m xs
 
   -- refused
   pub refused : (a .refusal .no ≡ 0 → ⊥) → refusedPlan (a .refusal) ≡ planOf m xs
   unfolding planOf refusedWith
   refused n =
-      let z : refusalOf m xs .no ≡ 0 → ⊥ = λ q. n (number ∙ q) in
-      rw (ne-eqb (refusalOf m xs .no) 0 z) (ap refusedPlan (ap (λ (x : Admission). x .refusal) (e ∙ says-refused m xs z)))
+      let z : planRefusal m xs .no ≡ 0 → ⊥ = λ q. n (number ∙ q) in
+      rw (ne-eqb (planRefusal m xs .no) 0 z) (ap refusedPlan (ap (λ (x : Admission). x .refusal) (e ∙ says-refused m xs z)))
 
   module _ (t : a .refusal .no ≡ 0) where
-    none : refusalOf m xs .no ≡ 0
+    none : planRefusal m xs .no ≡ 0
     none = sym number ∙ t
 
     answer : a ≡ takenWith (common (periods xs)) (weights (common (periods xs)) xs)
@@ -49,7 +49,7 @@ module _ (m : ℕ) (xs : List ℕ) (a : Admission) (e : a ≡ admissionOf m xs) 
         let l : a .common ≡ common (periods xs) = ap (λ (x : Admission). x .common) answer in
         let w : nums (a .weights) ≡ padded (weights (common (periods xs)) xs) =
         ap (λ (x : Admission). nums (x .weights)) answer ∙ nums-units (padded (weights (common (periods xs)) xs)) in
-        rw (eq-eqb (refusalOf m xs .no) 0 none) (ap takenPlan (ap₂ (λ (n : ℕ) (ws : List ℕ). planFor m n ws xs) l w))
+        rw (eq-eqb (planRefusal m xs .no) 0 none) (ap takenPlan (ap₂ (λ (n : ℕ) (ws : List ℕ). planFor m n ws xs) l w))
 
     -- of few cores and few tasks
     pub taken-few : (m ≤ coresLimit) × (length xs ≤ 2 * tasksLimit)

@@ -5,7 +5,7 @@ use lib.ListN.{getD}
 use Rattle.units.specs.Limits.{coresLimit, periodLimit, commonLimit}
 use Rattle.assignment.specs.Structure.{Structure}
 use Rattle.planning.specs.declared.Plan.{Plan}
-use Rattle.planning.specs.Plan.{noLine, tableOf, weightsOf}
+use Rattle.planning.specs.Plan.{noLine, sharesTable, planWeights}
 
 pub record PlanKept (pl : Plan) : Type 0 where
   pub cores-some : 0 < pl .cores
@@ -14,4 +14,4 @@ pub record PlanKept (pl : Plan) : Type 0 where
   pub common-small : pl .common ≤ commonLimit
   pub costs : (i : ℕ) → getD (pl .lines) i noLine .cost .0 ≤ periodLimit
   pub periods : (i : ℕ) → getD (pl .lines) i noLine .period .0 ≤ periodLimit
-  pub structure : Structure (pl .cores) (pl .common) (weightsOf pl) (tableOf pl)
+  pub structure : Structure (pl .cores) (pl .common) (planWeights pl) (sharesTable pl)

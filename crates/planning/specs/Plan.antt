@@ -9,7 +9,7 @@ use Rattle.units.specs.Units.{share, ticks, nums, units}
 use Rattle.lists.specs.Lists.{zeros}
 use Rattle.arith.specs.Period.{periods, common}
 use Rattle.admission.specs.Weight.{weights, padded}
-use Rattle.admission.specs.Admission.{refusalOf}
+use Rattle.admission.specs.Admission.{planRefusal}
 use Rattle.admission.specs.Refusals.{taken}
 use Rattle.assignment.specs.Passes.{sharesOf, rooms}
 use Rattle.admission.specs.declared.refusals.Refusal.{Refusal}
@@ -65,18 +65,18 @@ takenPlan pl = record { refusal = taken; plan = pl }
 -- planning: the first refusal that applies, or the plan
 unfoldable pub planOf : ℕ → List ℕ → Planned
 planOf m xs =
-    cond (eqb (refusalOf m xs .no) 0)
+    cond (eqb (planRefusal m xs .no) 0)
     (takenPlan (planFor m (common (periods xs)) (padded (weights (common (periods xs)) xs)) xs))
-    (refusedPlan (refusalOf m xs))
+    (refusedPlan (planRefusal m xs))
 
 -- a line's row of shares
 abbrev pub rowOf : Line → List ℕ
 rowOf ln = nums (ln .shares)
 
 -- a plan's table of shares
-abbrev pub tableOf : Plan → List (List ℕ)
-tableOf pl = map rowOf (pl .lines)
+abbrev pub sharesTable : Plan → List (List ℕ)
+sharesTable pl = map rowOf (pl .lines)
 
 -- a plan's weights
-abbrev pub weightsOf : Plan → List ℕ
-weightsOf pl = map (λ (ln : Line). ln .weight .0) (pl .lines)
+abbrev pub planWeights : Plan → List ℕ
+planWeights pl = map (λ (ln : Line). ln .weight .0) (pl .lines)

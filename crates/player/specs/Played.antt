@@ -9,7 +9,7 @@ use Rattle.dispatch.specs.declared.plan.Fresh.{Fresh}
 use Rattle.dispatch.specs.Record.{freshOf}
 use Rattle.dispatch.specs.Calls.{Call, step}
 use Rattle.plan_answer.specs.Program.{refusalText, unreadableText}
-use Rattle.calls_text.specs.Input.{Given, plays, unplayable, inputOf, callsFrom}
+use Rattle.calls_text.specs.Input.{InputSays, plays, unplayable, inputOf, callsFrom}
 use Rattle.player.specs.Answers.{answerText}
 
 -- the answers of calls, each made on the record that the one before handed on
@@ -22,7 +22,7 @@ unfoldable pub freshText : Fresh → List Call → List ℕ
 freshText f cs = cond (eqb (f .refusal .no) 0) (answersText (f .next) cs) (refusalText (f .refusal))
 
 -- what an input says, answered
-unfoldable pub givenText : List ℕ → Given → List ℕ
+unfoldable pub givenText : List ℕ → InputSays → List ℕ
 givenText s (plays m xs at) = freshText (freshOf m xs) (callsFrom (length s) s at)
 givenText s (unplayable line) = unreadableText line
 

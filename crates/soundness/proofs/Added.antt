@@ -8,7 +8,7 @@ use lib.Dec.{eqb, eqb·suc-zero}
 use lib.ListN.{length, getD, take, drop, set}
 use lib.Seq.{getD-set-other, take-all}
 use borrow.Author.Tests.{ltb-false, lt-ltb, le-ltb, eqb-true, eqb-false, eq-eqb, ne-eqb}
-use Rattle.lists.specs.Lists.{sum, parts, firstPart, bit, val}
+use Rattle.lists.specs.Lists.{total, parts, firstPart, bit, val}
 use Rattle.lists.proofs.Tests.{by-cases}
 use Rattle.lists.proofs.Lists.{getD-le-sum, sum-set, sum-take-suc, sum-ends, parts-le, parts-some}
 use Rattle.lists.proofs.Parts.{parts-split, parts-one, first-below}
@@ -30,8 +30,8 @@ withRow p row t =
     (getD row p 0 + t .load)
     (bit (movesOn p row) + t .movers)
     (bit (lower p row) + t .firsts)
-    (max (val (movesOn p row) (sum row)) (t .mover))
-    (max (val (fixedOn p row) (sum row)) (t .fixed))
+    (max (val (movesOn p row) (total row)) (t .mover))
+    (max (val (fixedOn p row) (total row)) (t .fixed))
 
 pub tally-more : (p : ℕ) (row : List ℕ) (tab : List (List ℕ)) → tallyOf p (row ∷ tab) ≡ withRow p row (tallyOf p tab)
 unfolding tallyOf
@@ -55,14 +55,14 @@ module _ (p : ℕ) (row : List ℕ) (t : Tally) where
       rw (m, f) (same _ _ _ _ _ _ _ _ _ _ (omega arith) (omega arith) (omega arith) (omega arith) (omega arith))
 
   -- a fixed task of that core
-  pub is-fixed : parts row ≡ 1 → 0 < getD row p 0 → withRow p row t ≡ withFixed (sum row) t
+  pub is-fixed : parts row ≡ 1 → 0 < getD row p 0 → withRow p row t ≡ withFixed (total row) t
   is-fixed e h =
       let m : moves row ≡ false = le-ltb 1 (parts row) (omega arith) in
       let f : fixedOn p row ≡ true = rw (eq-eqb (parts row) 1 e, lt-ltb 0 (getD row p 0) h) in
       rw (m, f) (same _ _ _ _ _ _ _ _ _ _ (omega (arith, parts-one row p e h)) (omega arith) (omega arith) (omega arith) refl)
 
   -- a mover
-  pub is-mover : 1 < parts row → withRow p row t ≡ withShares (sum row) (firstCore row) row p t
+  pub is-mover : 1 < parts row → withRow p row t ≡ withShares (total row) (firstCore row) row p t
   is-mover h =
       let m : moves row ≡ true = lt-ltb 1 (parts row) h in
       let f : fixed row ≡ false = ne-eqb (parts row) 1 (omega arith) in
@@ -77,22 +77,22 @@ first-in (zero ∷ r) h = first-in r (omega arith)
 first-in (suc x ∷ r) h = rw (eqb·suc-zero x) (omega arith)
 
 -- if it does not, there is none
-pub first-out : (r : List ℕ) → length r ≤ firstPart r → sum r ≡ 0
+pub first-out : (r : List ℕ) → length r ≤ firstPart r → total r ≡ 0
 first-out r h = rw (take-all (firstPart r) r h) at (first-below r)
 
 module _ (row : List ℕ) (p : ℕ) (h : 0 < getD row p 0) where
   -- a share that is the whole weight is the only one
-  pub fixed-parts : getD row p 0 ≡ sum row → parts row ≡ 1
+  pub fixed-parts : getD row p 0 ≡ total row → parts row ≡ 1
   fixed-parts e =
       omega (arith, parts-split row p, ap bit (lt-ltb 0 (getD row p 0) h), parts-le (take p row), parts-le (drop (suc p) row), sum-take-suc row p, sum-ends row (suc p))
 
   -- one that is not has others beside it
-  pub moves-parts : (getD row p 0 ≡ sum row → ⊥) → 1 < parts row
+  pub moves-parts : (getD row p 0 ≡ total row → ⊥) → 1 < parts row
   moves-parts n =
       by-cases (eqb (parts row) 1)
       (λ e. absurd (n (sym (parts-one row p (eqb-true (parts row) 1 e) h))))
       (λ e. omega (arith, eqb-false (parts row) 1 e, parts-some row (omega (arith, getD-le-sum row p))))
 
 -- beside a share that is the whole weight there is no other
-pub others-none : (row : List ℕ) (f p : ℕ) → f < length row → getD row f 0 ≡ sum row → (p ≡ f → ⊥) → getD row p 0 ≡ 0
+pub others-none : (row : List ℕ) (f p : ℕ) → f < length row → getD row f 0 ≡ total row → (p ≡ f → ⊥) → getD row p 0 ≡ 0
 others-none row f p h e n = omega (arith, sum-set row f 0 h, getD-set-other row f p 0 0 n, getD-le-sum (set row f 0) p)

@@ -14,15 +14,15 @@ use borrow.Author.Tests.{ltb-true, ltb-false, eqb-true, eqb-false}
 use Rattle.units.specs.Limits.{coresLimit, tasksLimit, commonLimit}
 use Rattle.units.specs.Units.{share}
 use Rattle.units.proofs.Units.{nums-long, nums-at}
-use Rattle.lists.specs.Lists.{sum, parts}
-use Rattle.lists.specs.Rows.{count, column}
+use Rattle.lists.specs.Lists.{total, parts}
+use Rattle.lists.specs.Rows.{howMany, column}
 use Rattle.lists.proofs.Tests.{by-cases, bit-cases}
 use Rattle.lists.proofs.Lists.{getD-le-sum}
 use Rattle.assignment.specs.Movers.{firstCore, movesOn, lower}
 use Rattle.planning.specs.declared.Line.{Line}
 use Rattle.planning.specs.Plan.{noLine, rowOf}
 use Rattle.soundness.specs.declared.tally.Tally.{Tally}
-use Rattle.soundness.specs.Tally.{noTally, tallyOf, withFixed, withShares, Light, Weighed}
+use Rattle.soundness.specs.Tally.{noTally, tallyOf, withFixed, withShares, Light, WeightsTested}
 use Rattle.soundness.proofs.Added.{withRow, tally-more, no-share, is-fixed, is-mover, first-in, first-out, fixed-parts, moves-parts, others-none}
 
 -- the tasks of a table are counted
@@ -36,7 +36,7 @@ unfolding tallyOf
 counted-none = record { long = length-replicate coresLimit noTally; at = λ p h. getD-replicate coresLimit p noTally noTally h }
 
 -- one task more, of sixteen shares that sum to its weight, and its first core f
-module _ (ln : Line) (sums : sum (rowOf ln) ≡ ln .weight .0) (wide : length (ln .shares) ≡ coresLimit)
+module _ (ln : Line) (sums : total (rowOf ln) ≡ ln .weight .0) (wide : length (ln .shares) ≡ coresLimit)
     (f : ℕ) (first : f ≡ firstCore (rowOf ln)) (tab : List (List ℕ)) (ts : List Tally) (k : Counted tab ts) where
   more : (new : List Tally) → length new ≡ coresLimit → ((p : ℕ) → p < coresLimit → getD new p noTally ≡ withRow p (rowOf ln) (getD ts p noTally))
       → Counted (rowOf ln ∷ tab) new
@@ -48,7 +48,7 @@ module _ (ln : Line) (sums : sum (rowOf ln) ≡ ln .weight .0) (wide : length (l
   -- it has no share
   pub none-more : coresLimit ≤ f → Counted (rowOf ln ∷ tab) ts
   none-more h =
-      let z : sum (rowOf ln) ≡ 0 = first-out (rowOf ln) (omega (arith, row-long)) in
+      let z : total (rowOf ln) ≡ 0 = first-out (rowOf ln) (omega (arith, row-long)) in
       more ts (k .long) (λ p l. sym (no-share p (rowOf ln) (getD ts p noTally) (omega (arith, getD-le-sum (rowOf ln) p))))
 
   module _ (h : f < coresLimit) where
@@ -59,7 +59,7 @@ module _ (ln : Line) (sums : sum (rowOf ln) ≡ ln .weight .0) (wide : length (l
     pub fixed-more : (t : Tally) → getD (ln .shares) f (share 0) .0 ≡ ln .weight .0 → t ≡ withFixed (ln .weight .0) (getD ts f noTally)
         → Counted (rowOf ln ∷ tab) (set ts f t)
     fixed-more t e u =
-        let s : getD (rowOf ln) f 0 ≡ sum (rowOf ln) = nums-at (ln .shares) f ∙ e ∙ sym sums in
+        let s : getD (rowOf ln) f 0 ≡ total (rowOf ln) = nums-at (ln .shares) f ∙ e ∙ sym sums in
         more (set ts f t) (length-set ts f t ∙ k .long)
         (λ p l.
         by-cases (eqb p f)
@@ -77,16 +77,16 @@ module _ (ln : Line) (sums : sum (rowOf ln) ≡ ln .weight .0) (wide : length (l
         more new l
         (λ p b. u p b ∙ ap₂ (λ (w q : ℕ). withShares w q (rowOf ln) p (getD ts p noTally)) (sym sums) first ∙ sym (is-mover p (rowOf ln) (getD ts p noTally) m))
 
-count-le : (f : List ℕ → Bool) (tab : List (List ℕ)) → count f tab ≤ length tab
+count-le : (f : List ℕ → Bool) (tab : List (List ℕ)) → howMany f tab ≤ length tab
 count-le f [] = omega arith
 count-le f (r ∷ tab) = ⊎-elim (λ e. omega (arith, e .1, count-le f tab)) (λ e. omega (arith, e .1, count-le f tab)) (bit-cases (f r))
 
-column-le : (p b : ℕ) (tab : List (List ℕ)) → ((i : ℕ) → sum (getD tab i []) ≤ b) → column p tab ≤ length tab * b
+column-le : (p b : ℕ) (tab : List (List ℕ)) → ((i : ℕ) → total (getD tab i []) ≤ b) → column p tab ≤ length tab * b
 column-le p b [] e = omega arith
 column-le p b (r ∷ tab) e = omega (arith, column-le p b tab (λ i. e (suc i)), e 0, getD-le-sum r p)
 
 -- the tallies of at most sixty-four tasks, of weight at most the largest L, are light
-light : (tab : List (List ℕ)) → length tab ≤ tasksLimit → ((i : ℕ) → sum (getD tab i []) ≤ commonLimit) → (p : ℕ) → Light (tallyOf p tab)
+light : (tab : List (List ℕ)) → length tab ≤ tasksLimit → ((i : ℕ) → total (getD tab i []) ≤ commonLimit) → (p : ℕ) → Light (tallyOf p tab)
 unfolding tallyOf
 light tab h e p = record {
   load = omega (arith, column-le p commonLimit tab e, mul-le-mul-right commonLimit h);
@@ -95,12 +95,12 @@ light tab h e p = record {
 }
 
 -- sixty-four lines
-module _ (lns : List Line) (weighed : Weighed lns) (long : length lns ≡ tasksLimit) where
+module _ (lns : List Line) (weighed : WeightsTested lns) (long : length lns ≡ tasksLimit) where
   -- line i, and those after it
   pub rows-from : (i : ℕ) → i < tasksLimit → drop i (map rowOf lns) ≡ rowOf (getD lns i noLine) ∷ drop (i + 1) (map rowOf lns)
   rows-from i h = rw (add-one i, ← (List·getD-map rowOf lns i noLine)) (drop-cons (map rowOf lns) i [] (omega (arith, length-map lns rowOf)))
 
-  rows-small : (i : ℕ) → sum (getD (map rowOf lns) i []) ≤ commonLimit
+  rows-small : (i : ℕ) → total (getD (map rowOf lns) i []) ≤ commonLimit
   rows-small i =
       rw (List·getD-map rowOf lns i noLine)
       (by-cases (ltb i tasksLimit)

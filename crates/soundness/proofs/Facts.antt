@@ -7,7 +7,7 @@ use lib.Dec.{leb}
 use lib.ListN.{getD}
 use borrow.Author.Tests.{leb-true}
 use Rattle.units.specs.Limits.{coresLimit, tasksLimit, periodLimit, commonLimit}
-use Rattle.lists.specs.Lists.{sum}
+use Rattle.lists.specs.Lists.{total}
 use Rattle.lists.specs.Below.{allBelow}
 use Rattle.lists.proofs.Tests.{and-left, and-right}
 use Rattle.lists.proofs.Below.{all-at}
@@ -92,5 +92,5 @@ module _ (pl : Plan) (ok : planSound pl ≡ true) where
   pub weight-small : (i : ℕ) → i < pl .count → getD (pl .lines) i noLine .weight .0 ≤ commonLimit
   weight-small i h = omega (arith, sound-small (pl .common) (getD (pl .lines) i noLine) (task-sound i h), few .common-small)
 
-  pub shares-sum : (i : ℕ) → i < pl .count → sum (rowOf (getD (pl .lines) i noLine)) ≡ getD (pl .lines) i noLine .weight .0
+  pub shares-sum : (i : ℕ) → i < pl .count → total (rowOf (getD (pl .lines) i noLine)) ≡ getD (pl .lines) i noLine .weight .0
   shares-sum i h = sound-sum (pl .common) (getD (pl .lines) i noLine) (task-sound i h)

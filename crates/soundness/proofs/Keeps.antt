@@ -7,12 +7,12 @@ use lib.Dec.{ltb}
 use lib.ListN.{length, getD, List·getD-eq-default}
 use borrow.Author.Tests.{ltb-true, ltb-false}
 use Rattle.units.specs.Limits.{coresLimit, tasksLimit, periodLimit, commonLimit}
-use Rattle.lists.specs.Lists.{sum, most}
+use Rattle.lists.specs.Lists.{total, most}
 use Rattle.lists.proofs.Tests.{by-cases}
 use Rattle.assignment.specs.Passes.{sharesOf, rooms}
 use Rattle.assignment.specs.Structure.{Structure}
 use Rattle.planning.specs.declared.Line.{Line}
-use Rattle.planning.specs.Plan.{line, emptyLine, noLine, linesOf, paddedLines, planFor, rowOf, tableOf}
+use Rattle.planning.specs.Plan.{line, emptyLine, noLine, linesOf, paddedLines, planFor, rowOf, sharesTable}
 use Rattle.planning.specs.Kept.{PlanKept}
 use Rattle.assignment.proofs.Placed.{placed, placed-length, placed-wide}
 use Rattle.soundness.proofs.PlannedLines.{long, task-line, empty-line, weights-back, table-back}
@@ -29,7 +29,7 @@ pub record Fits (m l : ℕ) (xs ws : List ℕ) : Type 0 where
   pub weighed : length ws ≡ tasksLimit
   pub none : (k : ℕ) → length xs / 2 ≤ k → getD ws k 0 ≡ 0
   pub each : most ws ≤ l
-  pub all : sum ws ≤ m * l
+  pub all : total ws ≤ m * l
 
 module _ (m l : ℕ) (xs ws : List ℕ) (f : Fits m l xs ws) where
   abbrev rows : List (List ℕ)
@@ -64,5 +64,5 @@ module _ (m l : ℕ) (xs ws : List ℕ) (f : Fits m l xs ws) where
         common-small = f .common-small;
         costs = each-line (λ ln. ln .cost .0 ≤ periodLimit) (omega arith) (omega arith) (f .costs);
         periods = each-line (λ ln. ln .period .0 ≤ periodLimit) (omega arith) (omega arith) (f .periods);
-        structure = subst⁻¹ (λ (vs : List ℕ). Structure m l vs (tableOf (planFor m l ws xs))) w (subst⁻¹ (λ (tab : List (List ℕ)). Structure m l ws tab) t held);
+        structure = subst⁻¹ (λ (vs : List ℕ). Structure m l vs (sharesTable (planFor m l ws xs))) w (subst⁻¹ (λ (tab : List (List ℕ)). Structure m l ws tab) t held);
       }

@@ -10,7 +10,7 @@ use borrow.Author.Tests.{ltb-true, ltb-false}
 use Rattle.units.specs.Limits.{coresLimit, tasksLimit}
 use Rattle.units.specs.Units.{nums, units}
 use Rattle.units.proofs.Units.{nums-units}
-use Rattle.lists.specs.Lists.{zeros, sum}
+use Rattle.lists.specs.Lists.{zeros, total}
 use Rattle.lists.proofs.Tests.{by-cases}
 use Rattle.planning.specs.declared.Line.{Line}
 use Rattle.planning.specs.Plan.{line, emptyLine, noLine, linesOf, paddedLines, rowOf}
@@ -37,7 +37,7 @@ line-at (c ∷ t ∷ xs) (w ∷ ws) (r ∷ rows) (suc i) h k l =
     rw (b, a) (line-at xs ws rows i (omega arith) (omega arith) (omega arith))
 
 -- a row without a share is a row of zeros
-pub zero-row : (r : List ℕ) → sum r ≡ 0 → r ≡ zeros (length r)
+pub zero-row : (r : List ℕ) → total r ≡ 0 → r ≡ zeros (length r)
 zero-row [] e = refl
 zero-row (zero ∷ r) e = ap (λ (ys : List ℕ). 0 ∷ ys) (zero-row r (omega arith))
 zero-row (suc x ∷ r) e = absurd (omega arith)
@@ -80,7 +80,7 @@ module _ (xs ws : List ℕ) (rows : List (List ℕ)) (few : length xs ≤ 2 * ta
         (λ e. ap (λ (ln : Line). ln .weight .0) (task-line i (ltb-true i (length xs / 2) e)))
         (λ e. ap (λ (ln : Line). ln .weight .0) (empty-line i (ltb-false i (length xs / 2) e) (omega (arith, length-map lns (λ (ln : Line). ln .weight .0), long))) ∙ sym (none i (ltb-false i (length xs / 2) e))))
 
-    module _ (sums : map sum rows ≡ ws) (wide : (i : ℕ) → i < tasksLimit → length (getD rows i []) ≡ coresLimit) where
+    module _ (sums : map total rows ≡ ws) (wide : (i : ℕ) → i < tasksLimit → length (getD rows i []) ≡ coresLimit) where
       -- the table of shares
       pub table-back : map rowOf (paddedLines (linesOf xs ws rows)) ≡ rows
       unfolding emptyLine
@@ -91,5 +91,5 @@ module _ (xs ws : List ℕ) (rows : List (List ℕ)) (few : length xs ≤ 2 * ta
           (λ e. ap rowOf (task-line i (ltb-true i (length xs / 2) e)) ∙ nums-units (getD rows i []))
           (λ e.
           let m : i < tasksLimit = omega (arith, length-map lns rowOf, long) in
-          let z : sum (getD rows i []) ≡ 0 = sym (List·getD-map sum rows i []) ∙ ap (λ (ys : List ℕ). getD ys i 0) sums ∙ none i (ltb-false i (length xs / 2) e) in
+          let z : total (getD rows i []) ≡ 0 = sym (List·getD-map total rows i []) ∙ ap (λ (ys : List ℕ). getD ys i 0) sums ∙ none i (ltb-false i (length xs / 2) e) in
           ap rowOf (empty-line i (ltb-false i (length xs / 2) e) m) ∙ sym (zero-row (getD rows i []) z ∙ ap zeros (wide i m))))

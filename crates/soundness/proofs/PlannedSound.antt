@@ -11,15 +11,15 @@ use borrow.Author.Tests.{ltb-true, ltb-false, lt-ltb, le-ltb, le-leb, eq-eqb, eq
 use Rattle.units.specs.Limits.{coresLimit, tasksLimit, periodLimit, commonLimit}
 use Rattle.units.specs.Units.{nums, units}
 use Rattle.units.proofs.Units.{nums-units}
-use Rattle.lists.specs.Lists.{sum, zeros}
-use Rattle.lists.specs.Rows.{count, column, top}
+use Rattle.lists.specs.Lists.{total, zeros}
+use Rattle.lists.specs.Rows.{howMany, column, top}
 use Rattle.lists.specs.Below.{allBelow}
 use Rattle.lists.proofs.Tests.{by-cases, and-true, or-left, or-right}
 use Rattle.lists.proofs.Below.{all-from}
 use Rattle.arith.specs.Period.{periods, common}
 use Rattle.arith.proofs.Table.{periods-at, periods-length}
 use Rattle.admission.specs.Weight.{weight, padded}
-use Rattle.admission.specs.Admission.{refusalOf}
+use Rattle.admission.specs.Admission.{planRefusal}
 use Rattle.admission.specs.Words.{commonOf, weightsOf, cost, period, tasks}
 use Rattle.admission.specs.Given.{Taken}
 use Rattle.admission.proofs.Exactly.{exactly-taken}
@@ -30,7 +30,7 @@ use Rattle.assignment.specs.Passes.{sharesOf, rooms}
 use Rattle.assignment.specs.Structure.{Structure, CoreKept}
 use Rattle.planning.specs.declared.Line.{Line}
 use Rattle.planning.specs.declared.Plan.{Plan}
-use Rattle.planning.specs.Plan.{line, emptyLine, noLine, linesOf, paddedLines, planFor, planOf, rowOf, tableOf}
+use Rattle.planning.specs.Plan.{line, emptyLine, noLine, linesOf, paddedLines, planFor, planOf, rowOf, sharesTable}
 use Rattle.planning.specs.Kept.{PlanKept}
 use Rattle.assignment.proofs.Placed.{placed-length}
 use Rattle.assignment.proofs.Properties.{kept}
@@ -43,7 +43,7 @@ use Rattle.soundness.proofs.Taken.{taken-fits, taken-plan}
 -- the rules for a core, from the structure of the shares
 core-rules : (pl : Plan) → PlanKept pl → (p : ℕ) → coreSound pl p ≡ true
 core-rules pl k p =
-    let tab = tableOf pl in
+    let tab = sharesTable pl in
     let c : CoreKept (pl .common) p tab = kept (k .structure) p in
     let within = leb (column p tab) (pl .common) in
     let there = ltb p (pl .cores) || eqb (column p tab) 0 in
@@ -52,11 +52,11 @@ core-rules pl k p =
     (by-cases (ltb p (pl .cores))
     (λ e. or-left (ltb p (pl .cores)) (eqb (column p tab) 0) e)
     (λ e. or-right (ltb p (pl .cores)) (eqb (column p tab) 0) (eq-eqb (column p tab) 0 (k .structure .beyond p (ltb-false p (pl .cores) e))))) in
-    let b : fewMovers tab p ≡ true = le-leb (count (movesOn p) tab) 2 (c .few) in
+    let b : fewMovers tab p ≡ true = le-leb (howMany (movesOn p) tab) 2 (c .few) in
     let d : oneFirst tab p ≡ true =
-    by-cases (eqb (count (movesOn p) tab) 2)
-    (λ e. or-right (not (eqb (count (movesOn p) tab) 2)) (eqb (count (lower p) tab) 1) (eq-eqb (count (lower p) tab) 1 (c .first (eqb-true (count (movesOn p) tab) 2 e))))
-    (λ e. or-left (not (eqb (count (movesOn p) tab) 2)) (eqb (count (lower p) tab) 1) (ap not e)) in
+    by-cases (eqb (howMany (movesOn p) tab) 2)
+    (λ e. or-right (not (eqb (howMany (movesOn p) tab) 2)) (eqb (howMany (lower p) tab) 1) (eq-eqb (howMany (lower p) tab) 1 (c .first (eqb-true (howMany (movesOn p) tab) 2 e))))
+    (λ e. or-left (not (eqb (howMany (movesOn p) tab) 2)) (eqb (howMany (lower p) tab) 1) (ap not e)) in
     let g : guarded tab p ≡ true = le-leb (top (movesOn p) tab) (top (fixedOn p) tab) (c .guarded) in
     and-true (coreWithin (pl .cores) (pl .common) tab p && fewMovers tab p && oneFirst tab p) (guarded tab p)
     (and-true (coreWithin (pl .cores) (pl .common) tab p && fewMovers tab p) (oneFirst tab p)
@@ -99,11 +99,11 @@ module _ (m : ℕ) (xs : List ℕ) (t : Taken m xs) where
       )
 
   -- the shares of a task sum to its weight
-  sums : (i : ℕ) → i < tasks xs → sum (getD rows i []) ≡ getD ws i 0
+  sums : (i : ℕ) → i < tasks xs → total (getD rows i []) ≡ getD ws i 0
   unfolding planFor
   sums i h =
       let k : PlanKept (planFor m l ws xs) = keeps m l xs ws fits in
-      sym (List·getD-map sum rows i []) ∙ ap (λ (ys : List ℕ). getD ys i 0) (Rattle.assignment.proofs.Placed.placed m l ws (fits .cores-some) (fits .cores-few) (fits .each) (fits .all) .sums)
+      sym (List·getD-map total rows i []) ∙ ap (λ (ys : List ℕ). getD ys i 0) (Rattle.assignment.proofs.Placed.placed m l ws (fits .cores-some) (fits .cores-few) (fits .each) (fits .all) .sums)
 
   -- the line of a task in use
   task-rule : (i : ℕ) → i < tasks xs → lineSound (commonOf xs) (line (cost xs i) (period xs i) (getD (padded (weightsOf xs)) i 0) (getD (sharesOf (padded (weightsOf xs)) (rooms m (commonOf xs))) i [])) ≡ true
@@ -119,7 +119,7 @@ module _ (m : ℕ) (xs : List ℕ) (t : Taken m xs) where
         le-leb p periodLimit (t .ranges i h .2),
         eq-eqb w (weight l c p) is,
         nums-units r,
-        eq-eqb (sum r) w (sums i h),
+        eq-eqb (total r) w (sums i h),
       )
 
   line-rules : (i : ℕ) → i < tasksLimit → lineOk (planFor m (commonOf xs) (padded (weightsOf xs)) xs) i ≡ true
@@ -153,5 +153,5 @@ module _ (m : ℕ) (xs : List ℕ) (t : Taken m xs) where
       (all-from coresLimit (coreSound pl) (λ p h. core-rules pl (keeps m l xs ws fits) p))
 
 -- so the plan that planning answers is sound
-pub plan-sound : (m : ℕ) (xs : List ℕ) → refusalOf m xs .no ≡ 0 → planSound (planOf m xs .plan) ≡ true
+pub plan-sound : (m : ℕ) (xs : List ℕ) → planRefusal m xs .no ≡ 0 → planSound (planOf m xs .plan) ≡ true
 plan-sound m xs e = subst⁻¹ (λ (pl : Plan). planSound pl ≡ true) (taken-plan m xs e) (sound-plan m xs (exactly-taken m xs .0 e))

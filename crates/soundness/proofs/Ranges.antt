@@ -7,7 +7,7 @@ use native.Mathlib.Nat.{div-eq-of-lt-le, div-mul-le-self, lt-div-mul-add, div-le
 use lib.Dec.{ltb, leb, eqb}
 use borrow.Author.Tests.{ltb-true, lt-ltb, leb-true, le-leb, eqb-true, eq-eqb}
 use Rattle.units.specs.Limits.{periodLimit}
-use Rattle.lists.specs.Lists.{sum}
+use Rattle.lists.specs.Lists.{total}
 use Rattle.lists.proofs.Tests.{and-left, and-right, and-true, same-bool}
 use Rattle.admission.specs.Weight.{weight}
 use Rattle.planning.specs.declared.Line.{Line}
@@ -67,27 +67,27 @@ sound-small l ln e =
     rw (sound-weight l ln e) (div-le-of-le-mul (ln .period .0) {n = l} (mul-le-mul-right l (r .cost-fits)))
 
 -- its shares sum to it
-pub sound-sum : (l : ℕ) (ln : Line) → lineSound l ln ≡ true → sum (rowOf ln) ≡ ln .weight .0
-sound-sum l ln e = eqb-true (sum (rowOf ln)) (ln .weight .0) (and-right (lineIn ln && weightIs l ln) (sharesSum ln) e)
+pub sound-sum : (l : ℕ) (ln : Line) → lineSound l ln ≡ true → total (rowOf ln) ≡ ln .weight .0
+sound-sum l ln e = eqb-true (total (rowOf ln)) (ln .weight .0) (and-right (lineIn ln && weightIs l ln) (sharesSum ln) e)
 
 -- the numbers of an empty line are 0
 pub record Zero (ln : Line) : Type 0 where
   pub cost : ln .cost .0 ≡ 0
   pub period : ln .period .0 ≡ 0
   pub weight : ln .weight .0 ≡ 0
-  pub shares : sum (rowOf ln) ≡ 0
+  pub shares : total (rowOf ln) ≡ 0
 
 pub empty-zero : (ln : Line) → lineEmpty ln ≡ true → Zero ln
 empty-zero ln e =
     let a : Bool = eqb (ln .cost .0) 0 in
     let b : Bool = eqb (ln .period .0) 0 in
     let c : Bool = eqb (ln .weight .0) 0 in
-    let d : Bool = eqb (sum (rowOf ln)) 0 in
+    let d : Bool = eqb (total (rowOf ln)) 0 in
     let abc : (a && b && c) ≡ true = and-left (a && b && c) d e in
     let ab : (a && b) ≡ true = and-left (a && b) c abc in
     record {
       cost = eqb-true (ln .cost .0) 0 (and-left a b ab);
       period = eqb-true (ln .period .0) 0 (and-right a b ab);
       weight = eqb-true (ln .weight .0) 0 (and-right (a && b) c abc);
-      shares = eqb-true (sum (rowOf ln)) 0 (and-right (a && b && c) d e);
+      shares = eqb-true (total (rowOf ln)) 0 (and-right (a && b && c) d e);
     }

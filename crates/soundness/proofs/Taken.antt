@@ -8,7 +8,7 @@ use lib.Dec.{eqb}
 use borrow.Author.Tests.{eq-eqb, eqb-true}
 use Rattle.lists.proofs.Tests.{by-cases}
 use Rattle.admission.specs.Weight.{padded}
-use Rattle.admission.specs.Admission.{refusalOf}
+use Rattle.admission.specs.Admission.{planRefusal}
 use Rattle.admission.specs.Words.{commonOf, weightsOf}
 use Rattle.admission.specs.Given.{Taken}
 use Rattle.admission.proofs.Exactly.{exactly-taken}
@@ -38,18 +38,18 @@ taken-fits m xs t =
     }
 
 -- the refusal that is answered
-pub plan-number : (m : ℕ) (xs : List ℕ) → planOf m xs .refusal .no ≡ refusalOf m xs .no
+pub plan-number : (m : ℕ) (xs : List ℕ) → planOf m xs .refusal .no ≡ planRefusal m xs .no
 unfolding planOf takenPlan refusedPlan
 plan-number m xs =
-    by-cases (eqb (refusalOf m xs .no) 0)
-    (λ e. rw e (sym (eqb-true (refusalOf m xs .no) 0 e)))
+    by-cases (eqb (planRefusal m xs .no) 0)
+    (λ e. rw e (sym (eqb-true (planRefusal m xs .no) 0 e)))
     (λ e. rw e)
 
 -- the plan that is answered
-pub taken-plan : (m : ℕ) (xs : List ℕ) → refusalOf m xs .no ≡ 0 → planOf m xs .plan ≡ planFor m (commonOf xs) (padded (weightsOf xs)) xs
+pub taken-plan : (m : ℕ) (xs : List ℕ) → planRefusal m xs .no ≡ 0 → planOf m xs .plan ≡ planFor m (commonOf xs) (padded (weightsOf xs)) xs
 unfolding planOf takenPlan
-taken-plan m xs e = rw (eq-eqb (refusalOf m xs .no) 0 e)
+taken-plan m xs e = rw (eq-eqb (planRefusal m xs .no) 0 e)
 
 -- it keeps what a plan must
-pub plan-kept : (m : ℕ) (xs : List ℕ) → refusalOf m xs .no ≡ 0 → PlanKept (planOf m xs .plan)
+pub plan-kept : (m : ℕ) (xs : List ℕ) → planRefusal m xs .no ≡ 0 → PlanKept (planOf m xs .plan)
 plan-kept m xs e = subst⁻¹ PlanKept (taken-plan m xs e) (keeps m (commonOf xs) xs (padded (weightsOf xs)) (taken-fits m xs (exactly-taken m xs .0 e)))

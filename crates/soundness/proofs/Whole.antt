@@ -10,12 +10,12 @@ use borrow.Author.Tests.{ltb-true, ltb-false}
 use Rattle.units.specs.Limits.{coresLimit, tasksLimit}
 use Rattle.lists.proofs.Tests.{by-cases}
 use Rattle.planning.specs.declared.Plan.{Plan}
-use Rattle.planning.specs.Plan.{noLine, tableOf}
+use Rattle.planning.specs.Plan.{noLine, sharesTable}
 use Rattle.soundness.specs.declared.tally.Tally.{Tally}
 use Rattle.soundness.specs.Rules.{numbersIn, commonIs}
 use Rattle.lists.specs.Below.{allBelow}
 use Rattle.soundness.specs.Plan.{lineSound, lineOk, coreSound, planSound}
-use Rattle.soundness.specs.Tally.{noTally, tallyOf, Weighed}
+use Rattle.soundness.specs.Tally.{noTally, tallyOf, WeightsTested}
 use Rattle.soundness.specs.Tests.{tallySound}
 use Rattle.lists.proofs.Below.{all-at, all-same}
 use Rattle.soundness.proofs.Ranges.{sound-sum, sound-small, Zero, empty-zero}
@@ -31,7 +31,7 @@ module _ (pl : Plan) (n : Numbers pl) (e : allBelow tasksLimit (lineOk pl) ≡ t
   past-zero i h l = empty-zero (getD (pl .lines) i noLine) (sym (past-ok pl i h) ∙ all-at tasksLimit i (lineOk pl) l e)
 
   -- its shares sum to its weight, which is at most the largest L
-  pub lines-weighed : Weighed (pl .lines)
+  pub lines-weighed : WeightsTested (pl .lines)
   lines-weighed i l =
       by-cases (ltb i (pl .count))
       (λ t.
@@ -70,7 +70,7 @@ module _ (pl : Plan) where
 
   -- neither does: the cores decide
   pub cores-decide : (ts : List Tally) → numbersIn pl ≡ true → (allBelow tasksLimit (lineOk pl) && commonIs pl) ≡ true
-      → ((p : ℕ) → p < coresLimit → getD ts p noTally ≡ tallyOf p (tableOf pl))
+      → ((p : ℕ) → p < coresLimit → getD ts p noTally ≡ tallyOf p (sharesTable pl))
       → planSound pl ≡ allBelow coresLimit (λ p. tallySound (pl .cores) (pl .common) p (getD ts p noTally))
   unfolding tallyOf
   cores-decide ts n t at =

@@ -7,7 +7,7 @@ use Rattle.lists.specs.Below.{allBelow}
 use Rattle.units.specs.Limits.{coresLimit, tasksLimit}
 use Rattle.planning.specs.declared.Line.{Line}
 use Rattle.planning.specs.declared.Plan.{Plan}
-use Rattle.planning.specs.Plan.{noLine, tableOf}
+use Rattle.planning.specs.Plan.{noLine, sharesTable}
 use Rattle.soundness.specs.Rules.{numbersIn, lineIn, weightIs, sharesSum, lineEmpty, commonIs, coreWithin, fewMovers, oneFirst, guarded}
 
 -- the rules for a task in use
@@ -21,10 +21,10 @@ lineOk pl i = cond (ltb i (pl .count)) (lineSound (pl .common) (getD (pl .lines)
 -- the rules for a core
 abbrev pub coreSound : Plan → ℕ → Bool
 coreSound pl p =
-    coreWithin (pl .cores) (pl .common) (tableOf pl) p
-    && fewMovers (tableOf pl) p
-    && oneFirst (tableOf pl) p
-    && guarded (tableOf pl) p
+    coreWithin (pl .cores) (pl .common) (sharesTable pl) p
+    && fewMovers (sharesTable pl) p
+    && oneFirst (sharesTable pl) p
+    && guarded (sharesTable pl) p
 
 -- a sound plan
 unfoldable pub planSound : Plan → Bool

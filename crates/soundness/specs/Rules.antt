@@ -5,8 +5,8 @@ use mathlib.Core.List.{List, map}
 use lib.Dec.{ltb, leb, eqb}
 use lib.ListN.{take}
 use Rattle.units.specs.Limits.{coresLimit, tasksLimit, periodLimit, commonLimit}
-use Rattle.lists.specs.Lists.{sum}
-use Rattle.lists.specs.Rows.{count, column, top}
+use Rattle.lists.specs.Lists.{total}
+use Rattle.lists.specs.Rows.{howMany, column, top}
 use Rattle.arith.specs.Period.{common}
 use Rattle.admission.specs.Weight.{weight}
 use Rattle.assignment.specs.Movers.{fixedOn, movesOn, lower}
@@ -31,11 +31,11 @@ weightIs l ln = eqb (ln .weight .0) (weight l (ln .cost .0) (ln .period .0))
 
 -- its shares sum to its weight
 abbrev pub sharesSum : Line → Bool
-sharesSum ln = eqb (sum (rowOf ln)) (ln .weight .0)
+sharesSum ln = eqb (total (rowOf ln)) (ln .weight .0)
 
 -- the numbers past the N tasks are 0
 abbrev pub lineEmpty : Line → Bool
-lineEmpty ln = eqb (ln .cost .0) 0 && eqb (ln .period .0) 0 && eqb (ln .weight .0) 0 && eqb (sum (rowOf ln)) 0
+lineEmpty ln = eqb (ln .cost .0) 0 && eqb (ln .period .0) 0 && eqb (ln .weight .0) 0 && eqb (total (rowOf ln)) 0
 
 -- L is the common period of its tasks
 abbrev pub commonIs : Plan → Bool
@@ -47,11 +47,11 @@ coreWithin m l tab p = leb (column p tab) l && (ltb p m || eqb (column p tab) 0)
 
 -- no core has more than two movers
 abbrev pub fewMovers : List (List ℕ) → ℕ → Bool
-fewMovers tab p = leb (count (movesOn p) tab) 2
+fewMovers tab p = leb (howMany (movesOn p) tab) 2
 
 -- two have it as first core of exactly one
 abbrev pub oneFirst : List (List ℕ) → ℕ → Bool
-oneFirst tab p = not (eqb (count (movesOn p) tab) 2) || eqb (count (lower p) tab) 1
+oneFirst tab p = not (eqb (howMany (movesOn p) tab) 2) || eqb (howMany (lower p) tab) 1
 
 -- on a core with a mover some fixed task weighs at least as much as each mover there (the heaviest of none weighs 0)
 abbrev pub guarded : List (List ℕ) → ℕ → Bool

@@ -6,8 +6,8 @@ use mathlib.Core.List.{List}
 use lib.Dec.{eqb}
 use lib.ListN.{getD}
 use Rattle.units.specs.Limits.{tasksLimit, commonLimit}
-use Rattle.lists.specs.Lists.{sum}
-use Rattle.lists.specs.Rows.{count, column, top}
+use Rattle.lists.specs.Lists.{total}
+use Rattle.lists.specs.Rows.{howMany, column, top}
 use Rattle.assignment.specs.Movers.{has, fixedOn, movesOn, lower}
 use Rattle.planning.specs.declared.Line.{Line}
 use Rattle.planning.specs.Plan.{noLine, rowOf}
@@ -21,8 +21,8 @@ noTally = record { load = 0; movers = 0; firsts = 0; mover = 0; fixed = 0 }
 unfoldable pub tallyOf : ℕ → List (List ℕ) → Tally
 tallyOf p tab = record {
   load = column p tab;
-  movers = count (movesOn p) tab;
-  firsts = count (lower p) tab;
+  movers = howMany (movesOn p) tab;
+  firsts = howMany (lower p) tab;
   mover = top (movesOn p) tab;
   fixed = top (fixedOn p) tab;
 }
@@ -58,7 +58,7 @@ pub record Light (t : Tally) : Type 0 where
   pub firsts : t .firsts ≤ tasksLimit
 
 -- each task's shares sum to its weight, which is at most the largest L
-abbrev pub Weighed : List Line → Type 0
-Weighed lns =
+abbrev pub WeightsTested : List Line → Type 0
+WeightsTested lns =
     (i : ℕ) → i < tasksLimit
-    → (sum (rowOf (getD lns i noLine)) ≡ getD lns i noLine .weight .0) × (getD lns i noLine .weight .0 ≤ commonLimit)
+    → (total (rowOf (getD lns i noLine)) ≡ getD lns i noLine .weight .0) × (getD lns i noLine .weight .0 ≤ commonLimit)

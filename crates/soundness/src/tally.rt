@@ -9,7 +9,7 @@ ghost use Prim.Native.Nat.{ℕ, _≤_, _<_, max};
 ghost use lib.ListN.{getD};
 ghost use Rattle.units.specs.Limits.{coresLimit, commonLimit};
 ghost use Rattle.planning.specs.Plan.{rowOf};
-ghost use Rattle.soundness.specs.Tally.{noTally, tallyOf, withFixed, withMover, Light, Weighed};
+ghost use Rattle.soundness.specs.Tally.{noTally, tallyOf, withFixed, withMover, Light, WeightsTested};
 
 // Of one core: its load, its movers, those whose first core it is, the weight of the heaviest mover and of the heaviest fixed task.
 pub struct Tally {
@@ -67,7 +67,7 @@ impl Tally {
 
 // What the tasks put on each core: a task is fixed if its first share is its weight.
 pub fn tallies_of(lines: [Line; TASKS]) -> [Tally; CORES]
-    requires { ⌜ Weighed lines ⌝ }
+    requires { ⌜ WeightsTested lines ⌝ }
     ensures { λ r. ⌜ ((p : ℕ) → p < coresLimit → getD r p noTally ≡ tallyOf p (map rowOf lines)) ⌝ }
 {
     let mut tallies = [Tally::NONE; CORES];

@@ -10,7 +10,7 @@ use lib.Seq.{sets, sets-eq, take-at}
 use Rattle.lists.proofs.Tests.{by-cases}
 use Rattle.writing.specs.Ascii.{newline}
 use Rattle.scanning.proofs.Fields.{field-kept}
-use Rattle.table_text.specs.Text.{textLimit, numberBound, coresLine, taskLine, badTask, thenLater, numbersFrom, tableFrom, afterCores, textOf, numbersOf}
+use Rattle.table_text.specs.Text.{textLimit, numberBound, coresLine, taskLine, badTask, thenLater, numbersFrom, tableFrom, afterCores, textOf, tableSaid}
 use Rattle.table_text.proofs.Tables.{task-kept}
 use Rattle.scanning.specs.declared.number.Number.{Number}
 use Rattle.scanning.specs.declared.number.Number.the-variants.{Value, NoNumber}
@@ -34,19 +34,19 @@ numbers-fit (suc f) s at =
     (λ h. rw h (omega arith))
 
 -- a table that starts at the third byte or later
-table-fits : (s : List ℕ) (m at : ℕ) → 2 ≤ at → length s ≤ textLimit → length (numbersOf (tableFrom s m at)) ≤ 2048
-unfolding tableFrom numbersOf
+table-fits : (s : List ℕ) (m at : ℕ) → 2 ≤ at → length s ≤ textLimit → length (tableSaid (tableFrom s m at)) ≤ 2048
+unfolding tableFrom tableSaid
 table-fits s m at h k =
     by-cases (eqb (badTask s at) 0) (λ e. rw e (omega (arith, numbers-fit (length s) s at))) (λ e. rw e (omega arith))
 
-after-fits : (s : List ℕ) (n : Number) → length s ≤ textLimit → ((m at : ℕ) → n ≡ Value m at → 2 ≤ at) → length (numbersOf (afterCores s n)) ≤ 2048
-unfolding afterCores numbersOf
+after-fits : (s : List ℕ) (n : Number) → length s ≤ textLimit → ((m at : ℕ) → n ≡ Value m at → 2 ≤ at) → length (tableSaid (afterCores s n)) ≤ 2048
+unfolding afterCores tableSaid
 after-fits s (Value m at) h f = table-fits s m at (f m at refl) h
 after-fits s NoNumber h f = omega arith
 
 -- the numbers of a text
-pub text-fits : (s : List ℕ) → length (numbersOf (textOf s)) ≤ 2048
-unfolding textOf numbersOf
+pub text-fits : (s : List ℕ) → length (tableSaid (textOf s)) ≤ 2048
+unfolding textOf tableSaid
 text-fits s =
     by-cases (ltb textLimit (length s))
     (λ h. rw h (omega arith))
@@ -55,7 +55,7 @@ text-fits s =
     (λ e. rw (h, e) (after-fits s (coresLine s) (ltb-false textLimit (length s) h) (λ m at q. field-kept numberBound s newline 0 m at (omega arith) q .1))))
 
 -- so a lent table of 2,048 numbers starts with all of them
-pub table-holds : (s l : List ℕ) → 2048 ≤ length l → take (length (numbersOf (textOf s))) (sets l 0 (numbersOf (textOf s))) ≡ numbersOf (textOf s)
+pub table-holds : (s l : List ℕ) → 2048 ≤ length l → take (length (tableSaid (textOf s))) (sets l 0 (tableSaid (textOf s))) ≡ tableSaid (textOf s)
 table-holds s l h =
-    let xs = numbersOf (textOf s) in
+    let xs = tableSaid (textOf s) in
     ap (take (length xs)) (sets-eq xs l 0 (omega (arith, text-fits s))) ∙ take-at xs (drop (0 + length xs) l) (length xs) refl

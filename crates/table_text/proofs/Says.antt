@@ -5,7 +5,7 @@ use mathlib.Core.List.{List}
 use borrow.Author.Tests.{lt-ltb, le-ltb, ne-eqb}
 use lib.ListN.{length}
 use lib.Seq.{sets}
-use Rattle.table_text.specs.Text.{Said, says, unreadable, textLimit, coresLine, badTask, numbersFrom, tableFrom, afterCores, textOf, numbersOf, answerOf}
+use Rattle.table_text.specs.Text.{Said, says, unreadable, textLimit, coresLine, badTask, numbersFrom, tableFrom, afterCores, textOf, tableSaid, answerOf}
 use Rattle.scanning.specs.declared.number.Number.{Number}
 use Rattle.scanning.specs.declared.number.Number.the-variants.{Value, NoNumber}
 use Rattle.table_text.specs.declared.Reading.{Reading}
@@ -13,16 +13,16 @@ use Rattle.table_text.specs.declared.Reading.the-variants.{Read, Unreada
 
 -- the answer and the lent numbers are those of what the text says
 abbrev pub Gives : Said → Reading → List ℕ → List ℕ → Type 0
-Gives w r before after = (r ≡ answerOf w) × (after ≡ sets before 0 (numbersOf w))
+Gives w r before after = (r ≡ answerOf w) × (after ≡ sets before 0 (tableSaid w))
 
 -- an unreadable text names its line and changes no number
 pub gives-line : {w : Said} (line : ℕ) (l : List ℕ) → w ≡ unreadable line → Gives w (Unreadable line) l l
-unfolding answerOf numbersOf
+unfolding answerOf tableSaid
 gives-line line l e = rw e (refl, refl)
 
 -- a readable one gives its numbers
 pub gives-table : {w : Said} (m n : ℕ) (xs before after : List ℕ) → w ≡ says m xs → n ≡ length xs → after ≡ sets before 0 xs → Gives w (Read m n) before after
-unfolding answerOf numbersOf
+unfolding answerOf tableSaid
 gives-table m n xs before after e f g = rw (e, f) (refl, g)
 
 -- what says the same gives the same

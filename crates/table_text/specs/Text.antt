@@ -70,9 +70,9 @@ textOf s =
     (cond (eqb (length s) 0) (unreadable 0) (afterCores s (coresLine s)))
 
 -- the table's numbers, and none if the text is unreadable
-unfoldable pub numbersOf : Said → List ℕ
-numbersOf (says m xs) = xs
-numbersOf (unreadable line) = []
+unfoldable pub tableSaid : Said → List ℕ
+tableSaid (says m xs) = xs
+tableSaid (unreadable line) = []
 
 -- the answer: the core count and how many numbers there are, or the line that is named
 unfoldable pub answerOf : Said → Reading

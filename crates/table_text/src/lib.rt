@@ -8,7 +8,7 @@ ghost use mathlib.Core.Path.{_≡_};
 ghost use Prim.Native.Nat.{_≤_};
 ghost use lib.ListN.{length, set};
 ghost use lib.Seq.{sets};
-ghost use Rattle.table_text.specs.Text.{textOf, tableFrom, badTask, numbersFrom, numbersOf, answerOf};
+ghost use Rattle.table_text.specs.Text.{textOf, tableFrom, badTask, numbersFrom, tableSaid, answerOf};
 
 // Bytes of a text, at most.
 pub const BYTES: usize = 4_096;
@@ -78,7 +78,7 @@ fn store_tasks(text: &[u8], from: usize, table: &mut [u32]) -> usize
 // The table, stored only if each of its lines can be read.
 fn read_table(text: &[u8], cores: u32, from: usize, table: &mut [u32]) -> Reading
     ensures { λ r. ⌜ r ≡ answerOf (tableFrom (now (text .entry)) cores from) ⌝ }
-    ensures { λ _. ⌜ now (table .exit) ≡ sets (now (table .entry)) 0 (numbersOf (tableFrom (now (text .entry)) cores from)) ⌝ }
+    ensures { λ _. ⌜ now (table .exit) ≡ sets (now (table .entry)) 0 (tableSaid (tableFrom (now (text .entry)) cores from)) ⌝ }
 {
     let line = first_unreadable(text, from);
     if line == 0 {
@@ -95,7 +95,7 @@ fn read_table(text: &[u8], cores: u32, from: usize, table: &mut [u32]) -> Readin
 // What the text says. Its numbers are stored in the table as far as that reaches; an unreadable text changes none.
 pub fn read_text(text: &[u8], table: &mut [u32]) -> Reading
     ensures { λ r. ⌜ r ≡ answerOf (textOf (now (text .entry))) ⌝ }
-    ensures { λ _. ⌜ now (table .exit) ≡ sets (now (table .entry)) 0 (numbersOf (textOf (now (text .entry)))) ⌝ }
+    ensures { λ _. ⌜ now (table .exit) ≡ sets (now (table .entry)) 0 (tableSaid (textOf (now (text .entry)))) ⌝ }
 {
     let n = text.len();
     if BYTES < n {

@@ -6,7 +6,7 @@ use native.Mathlib.Omega.{arith}
 use borrow.Author.Tests.{leb-true, le-leb, ltb-true, ltb-false, lt-ltb, le-ltb, eqb-true, eq-eqb}
 use lib.Dec.{ltb, leb, eqb}
 use Rattle.units.specs.Limits.{clockLimit, commonLimit, runsLimit}
-use Rattle.lists.specs.Lists.{sum}
+use Rattle.lists.specs.Lists.{total}
 use Rattle.lists.specs.Below.{allBelow}
 use Rattle.lists.proofs.Tests.{by-cases, and-left, and-right}
 use Rattle.lists.proofs.Below.{all-at, all-from}
@@ -22,7 +22,7 @@ use Rattle.task_state.proofs.RunFacts.{RunFacts, run-facts}
 pub record Facts (ln : Line) (st : State) : Type 0 where
   pub few : st .live ≤ runsLimit
   pub rules : (k : ℕ) → k < runsLimit → runRule ln st k ≡ true
-  pub counts : sum (st .counts) ≡ st .place
+  pub counts : total (st .counts) ≡ st .place
   pub below : st .place < ln .weight .0
   pub last : st .last .0 ≤ clockLimit
   pub had : (st .had || eqb (st .last .0) 0) ≡ true
@@ -36,14 +36,14 @@ module _ (ln : Line) (st : State) where
       let runs = and-left (runsSound ln st) (turnSound ln st) some in
       let turn = and-right (runsSound ln st) (turnSound ln st) some in
       let last = and-right (runsSound ln st && turnSound ln st) (lastSound st) e in
-      let summed = eqb (sum (st .counts)) (st .place) in
+      let summed = eqb (total (st .counts)) (st .place) in
       let below = ltb (st .place) (ln .weight .0) in
       let within = leb (st .last .0) clockLimit in
       let had = st .had || eqb (st .last .0) 0 in
       record {
         few = leb-true (st .live) runsLimit (and-left (leb (st .live) runsLimit) rules runs);
         rules = λ k l. all-at runsLimit k (λ j. runRule ln st j) l (and-right (leb (st .live) runsLimit) rules runs);
-        counts = eqb-true (sum (st .counts)) (st .place) (and-left summed below turn);
+        counts = eqb-true (total (st .counts)) (st .place) (and-left summed below turn);
         below = ltb-true (st .place) (ln .weight .0) (and-right summed below turn);
         last = leb-true (st .last .0) clockLimit (and-left within had last);
         had = and-right within had last;
@@ -55,7 +55,7 @@ module _ (ln : Line) (st : State) where
       rw (
         le-leb (st .live) runsLimit (f .few),
         all-from runsLimit (λ k. runRule ln st k) (f .rules),
-        eq-eqb (sum (st .counts)) (st .place) (f .counts),
+        eq-eqb (total (st .counts)) (st .place) (f .counts),
         lt-ltb (st .place) (ln .weight .0) (f .below),
         le-leb (st .last .0) clockLimit (f .last),
       ) (f .had)
@@ -79,5 +79,5 @@ module _ (ln : Line) (st : State) (f : Facts ln st) where
       omega (arith, eqb-true (deadlineOf st) 0 z))
 
   -- the turn step can be asked for, if the shares sum to the weight
-  pub turnable : ln .weight .0 ≤ commonLimit → sum (rowOf ln) ≡ ln .weight .0 → Turnable (ln .weight .0) (st .place) (rowOf ln) (st .counts)
+  pub turnable : ln .weight .0 ≤ commonLimit → total (rowOf ln) ≡ ln .weight .0 → Turnable (ln .weight .0) (st .place) (rowOf ln) (st .counts)
   turnable h e = record { small = h; below = f .below; shares = e; counts = f .counts }

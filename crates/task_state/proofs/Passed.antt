@@ -6,7 +6,7 @@ use native.Mathlib.Omega.{arith}
 use borrow.Author.Tests.{eqb-false}
 use lib.Dec.{eqb}
 use Rattle.units.specs.Limits.{periodLimit, commonLimit, clockLimit, runsLimit}
-use Rattle.lists.specs.Lists.{sum}
+use Rattle.lists.specs.Lists.{total}
 use Rattle.lists.proofs.Tests.{by-cases}
 use Rattle.planning.specs.declared.Line.{Line}
 use Rattle.planning.specs.Plan.{rowOf}
@@ -28,7 +28,7 @@ module _ (ln : Line) (st : State) (t : ℕ) (e : releaseOwn ln st t ≡ 0) where
       (λ b. omega (arith, eqb-false (st .live) runsLimit b))
 
   -- so it can be taken, where the plan's numbers are in range and the shares sum to the weight
-  pub releasable : Facts ln st → ln .weight .0 ≤ commonLimit → sum (rowOf ln) ≡ ln .weight .0 → t ≤ clockLimit → ln .period .0 ≤ periodLimit
+  pub releasable : Facts ln st → ln .weight .0 ≤ commonLimit → total (rowOf ln) ≡ ln .weight .0 → t ≤ clockLimit → ln .period .0 ≤ periodLimit
       → Releasable ln st t
   releasable f small shares time period =
       record { turn = turnable ln st f small shares; room = has-room (f .few); time = time; period = period }

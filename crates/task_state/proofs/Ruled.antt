@@ -10,7 +10,7 @@ use Rattle.units.specs.declared.share.Share.{Share}
 use Rattle.units.specs.Limits.{coresLimit, clockLimit}
 use Rattle.units.specs.Units.{share, nums}
 use Rattle.units.proofs.Units.{nums-at}
-use Rattle.lists.specs.Lists.{sum}
+use Rattle.lists.specs.Lists.{total}
 use Rattle.lists.proofs.Tests.{by-cases, and-left, and-right}
 use Rattle.planning.specs.declared.Line.{Line}
 use Rattle.task_state.specs.declared.Run.{Run}
@@ -73,15 +73,15 @@ not-both m n e =
 
 module _ (st : State) where
   -- counts that do not sum to the place, of any task
-  pub other-sum : (ln : Line) (used : Bool) → eqb (sum (st .counts)) (st .place) ≡ false → cond used (stateSound ln st) (stateEmpty st) ≡ false
+  pub other-sum : (ln : Line) (used : Bool) → eqb (total (st .counts)) (st .place) ≡ false → cond used (stateSound ln st) (stateEmpty st) ≡ false
   other-sum ln true e = rw (e, and-no (runsSound ln st))
-  other-sum ln false e = rw (not-both (sum (st .counts)) (st .place) e)
+  other-sum ln false e = rw (not-both (total (st .counts)) (st .place) e)
 
-  module _ (e : eqb (sum (st .counts)) (st .place) ≡ true) where
+  module _ (e : eqb (total (st .counts)) (st .place) ≡ true) where
     -- what is left to test of a task in use
     pub used-left : (ln : Line) → (ltb (st .place) (ln .weight .0) && lastSound st && runsSound ln st) ≡ stateSound ln st
     used-left ln = rw e (last-first (ltb (st .place) (ln .weight .0)) (lastSound st) (runsSound ln st))
 
     -- and of another
     pub other-left : (eqb (st .place) 0 && eqb (st .last .0) 0 && not (st .had) && eqb (st .live) 0 && runsEmpty st) ≡ stateEmpty st
-    other-left = rw (eqb-true (sum (st .counts)) (st .place) e, and-same (eqb (st .place) 0))
+    other-left = rw (eqb-true (total (st .counts)) (st .place) e, and-same (eqb (st .place) 0))

@@ -4,7 +4,7 @@ use mathlib.Core.Bool.{Bool, cond, not, _&&_, _||_}
 use lib.Dec.{ltb, leb, eqb}
 use lib.ListN.{getD}
 use Rattle.units.specs.Limits.{coresLimit, clockLimit, runsLimit}
-use Rattle.lists.specs.Lists.{sum}
+use Rattle.lists.specs.Lists.{total}
 use Rattle.planning.specs.declared.Line.{Line}
 use Rattle.planning.specs.Plan.{rowOf}
 use Rattle.lists.specs.Below.{allBelow}
@@ -33,7 +33,7 @@ runsSound ln st = leb (st .live) runsLimit && allBelow runsLimit (λ k. runRule 
 
 -- the turn counts sum to the place in the turn cycle, which is below w
 abbrev pub turnSound : Line → State → Bool
-turnSound ln st = eqb (sum (st .counts)) (st .place) && ltb (st .place) (ln .weight .0)
+turnSound ln st = eqb (total (st .counts)) (st .place) && ltb (st .place) (ln .weight .0)
 
 -- a last release is within the clock's range, and 0 where there was none
 abbrev pub lastSound : State → Bool
@@ -50,5 +50,5 @@ runsEmpty st = allBelow runsLimit (λ k. runEmpty (runAt st k))
 -- past the N tasks all numbers are 0
 abbrev pub stateEmpty : State → Bool
 stateEmpty st =
-    eqb (sum (st .counts)) 0 && eqb (st .place) 0 && eqb (st .last .0) 0 && not (st .had) && eqb (st .live) 0
+    eqb (total (st .counts)) 0 && eqb (st .place) 0 && eqb (st .last .0) 0 && not (st .had) && eqb (st .live) 0
     && runsEmpty st

@@ -11,7 +11,7 @@ ghost use mathlib.Core.Bool.{true, cond, _&&_};
 ghost use Prim.Native.Nat.{_≤_, _<_};
 ghost use lib.Dec.{ltb, leb, eqb};
 ghost use Rattle.units.specs.Limits.{coresLimit, periodLimit};
-ghost use Rattle.lists.specs.Lists.{sum};
+ghost use Rattle.lists.specs.Lists.{total};
 ghost use Rattle.task_state.specs.Sound.{runEmpty, runsSound, lastSound, stateSound, runsEmpty, stateEmpty};
 
 // A count in the width of their sum: the proof knows the bound of a parameter, not of an array's element.
@@ -21,9 +21,9 @@ fn wide(count: u32) -> u64
     count as u64
 }
 
-// The turn counts sum to this number.
-fn sums_to(counts: [u32; CORES], total: u32) -> bool
-    ensures { λ r. ⌜ r ≡ eqb (sum counts) total ⌝ }
+// The turn counts sum to this place.
+fn sums_to(counts: [u32; CORES], place: u32) -> bool
+    ensures { λ r. ⌜ r ≡ eqb (total counts) place ⌝ }
 {
     let mut all: u64 = 0;
     let mut p: usize = 0;
@@ -32,7 +32,7 @@ fn sums_to(counts: [u32; CORES], total: u32) -> bool
         all += wide(n);
         p += 1;
     }
-    all == total as u64
+    all == place as u64
 }
 
 impl Run {

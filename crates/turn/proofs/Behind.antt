@@ -4,7 +4,7 @@ use mathlib.Core.Path.{_≡_}
 use mathlib.Core.List.{List, [], _∷_}
 use native.Mathlib.Omega.{arith}
 use lib.ListN.{length, getD}
-use Rattle.lists.specs.Lists.{sum}
+use Rattle.lists.specs.Lists.{total}
 use Rattle.turn.specs.Turn.{more}
 
 -- a core with share s and n runs, at place d
@@ -19,7 +19,7 @@ behind w d (s ∷ ss) (n ∷ ns) = gap w d s n + behind w d ss ns
 
 -- a bound on each core is one on all
 pub behind-bound : (w d e : ℕ) (ss ns : List ℕ) → ((i : ℕ) → i < length ss → gap w d (getD ss i 0) (getD ns i 0) * w ≤ getD ss i 0 * e)
-    → behind w d ss ns * w ≤ sum ss * e
+    → behind w d ss ns * w ≤ total ss * e
 unfolding behind
 behind-bound w d e [] ns h = omega arith
 behind-bound w d e (s ∷ ss) [] h = omega arith

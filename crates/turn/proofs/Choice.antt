@@ -10,10 +10,10 @@ use borrow.Author.Tests.{ltb-true, ltb-false}
 use lib.Dec.{ltb, eqb, eqb·suc-zero}
 use lib.ListN.{length, getD, drop}
 use Rattle.units.specs.Limits.{coresLimit}
-use Rattle.lists.specs.Lists.{sum}
+use Rattle.lists.specs.Lists.{total}
 use Rattle.lists.proofs.Tests.{by-cases}
 use Rattle.turn.specs.declared.Best.{Best}
-use Rattle.turn.specs.Turn.{isOpen, duePlace, better, bestFrom, nobody, coreOf, Turnable}
+use Rattle.turn.specs.Turn.{isOpen, duePlace, betterCore, bestFrom, nobody, coreOf, Turnable}
 use Rattle.turn.proofs.Search.{search-next, search-end}
 
 -- core i, counted from 0, is open
@@ -80,7 +80,7 @@ module _ (w t : ℕ) (ss ns : List ℕ) where
 
   -- one core more
   found-next : (k : ℕ) (b : Best) → Found w t ss ns k (b .core) (b .due)
-      → let a = better w t b (suc k) (getD ss k 0) (getD ns k 0) in Found w t ss ns (suc k) (a .core) (a .due)
+      → let a = betterCore w t b (suc k) (getD ss k 0) (getD ns k 0) in Found w t ss ns (suc k) (a .core) (a .due)
   found-next k b f = rw (add-one k) at (found-one k (b .core) (b .due) (isOpen w t (getD ss k 0) (getD ns k 0)) (ltb (due w ss ns k) (b .due)) refl refl f)
 
   -- with m cores left to look at
@@ -91,17 +91,17 @@ module _ (w t : ℕ) (ss ns : List ℕ) where
       rw (search-end w t k b ss ns (omega arith)) (rw g at f)
   found-from (suc m) k b e l f =
       rw (search-next w t k b ss ns (omega arith) (omega arith))
-      (found-from m (suc k) (better w t b (suc k) (getD ss k 0) (getD ns k 0)) (omega arith) l (found-next k b f))
+      (found-from m (suc k) (betterCore w t b (suc k) (getD ss k 0) (getD ns k 0)) (omega arith) l (found-next k b f))
 
 -- if no core is open, too many runs were counted
 closed-sum : (w k : ℕ) (ss ns : List ℕ) → length ns ≡ length ss
-    → ((i : ℕ) → i < length ss → getD ss i 0 * k ≤ getD ns i 0 * w) → sum ss * k ≤ sum ns * w
+    → ((i : ℕ) → i < length ss → getD ss i 0 * k ≤ getD ns i 0 * w) → total ss * k ≤ total ns * w
 closed-sum w k [] ns l h = omega arith
 closed-sum w k (s ∷ ss) [] l h = absurd (omega arith)
 closed-sum w k (s ∷ ss) (n ∷ ns) l h =
     omega (arith, h 0 (omega arith), closed-sum w k ss ns (omega arith) (λ i m. h (suc i) (omega arith)))
 
-module _ (w t : ℕ) (ss ns : List ℕ) (pos : 0 < w) (shares : sum ss ≡ w) (counts : sum ns ≡ t) (same : length ns ≡ length ss) where
+module _ (w t : ℕ) (ss ns : List ℕ) (pos : 0 < w) (shares : total ss ≡ w) (counts : total ns ≡ t) (same : length ns ≡ length ss) where
   -- some core is open: shares that sum to w and counts that sum to t leave one
   some : (core d : ℕ) → Found w t ss ns (length ss) core d → (j : ℕ) × (core ≡ suc j) × Chosen w t ss ns (length ss) j
   some zero d f =

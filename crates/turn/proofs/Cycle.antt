@@ -10,13 +10,13 @@ use lib.Dec.{eqb}
 use lib.ListN.{length, getD}
 use lib.Seq.{getD-set-same, getD-set-other, ext-getD}
 use Rattle.units.specs.Limits.{coresLimit}
-use Rattle.lists.specs.Lists.{sum, zeros, bit}
+use Rattle.lists.specs.Lists.{total, zeros, bit}
 use Rattle.lists.proofs.Tests.{by-cases}
 use Rattle.lists.proofs.Lists.{getD-le-sum, zeros-at}
 use Rattle.turn.specs.declared.Turn.{Turn}
 use Rattle.turn.specs.Turn.{more, counted, turnOf, nextTurn}
 use Rattle.turn.proofs.Choice.{choice}
-use Rattle.turn.specs.Runs.{after, coreOfRun, sent}
+use Rattle.turn.specs.Runs.{turnAfter, coreOfRun, sent}
 use Rattle.turn.proofs.Pace.{Pace, pace-start, pace-more, pace-whole}
 
 -- what is known of counts and place after c runs, f p of them on core p + 1
@@ -35,7 +35,7 @@ more-at ns j p l = go (ℕ-discrete p j)
     go (yes e) = rw (e, getD-set-same ns j (getD ns j 0 + 1) 0 l, eq-eqb (suc j) (suc j) refl)
     go (no n) = rw (getD-set-other ns j p (getD ns j 0 + 1) 0 n, ne-eqb (suc j) (suc p) (λ e. n (omega arith)), add-zero)
 
-module _ (w : ℕ) (ss : List ℕ) (pos : 0 < w) (shares : sum ss ≡ w) (long : length ss ≡ coresLimit) where
+module _ (w : ℕ) (ss : List ℕ) (pos : 0 < w) (shares : total ss ≡ w) (long : length ss ≡ coresLimit) where
   -- a fresh plan
   fresh-pace : Pace w 0 ss (zeros coresLimit)
   fresh-pace = rw long at (pace-start w ss pos shares)
@@ -68,31 +68,31 @@ module _ (w : ℕ) (ss : List ℕ) (pos : 0 < w) (shares : sum ss ≡ w) (long :
       })))
 
   -- and so after any number
-  pub state : (c : ℕ) → State w ss c (after w ss c) (λ p. sent w ss (suc p) c)
-  unfolding after coreOfRun sent
+  pub state : (c : ℕ) → State w ss c (turnAfter w ss c) (λ p. sent w ss (suc p) c)
+  unfolding turnAfter coreOfRun sent
   state zero = record { cycles = 0; number = omega arith; below = pos; pace = fresh-pace; runs = λ p. omega (arith, zeros-at coresLimit p) }
-  state (suc c) = next c (after w ss c) (λ p. sent w ss (suc p) c) (state c)
+  state (suc c) = next c (turnAfter w ss c) (λ p. sent w ss (suc p) c) (state c)
 
   -- the place in the cycle
-  pub place-after : (c : ℕ) → after w ss c .place ≡ c % w
+  pub place-after : (c : ℕ) → turnAfter w ss c .place ≡ c % w
   place-after c =
       let s = state c in
-      sym (mod-eq-of-lt (s .below)) ∙ sym (mul-add-mod-self-right (s .cycles) w (after w ss c .place)) ∙ ap (λ (x : ℕ). x % w) (s .number)
+      sym (mod-eq-of-lt (s .below)) ∙ sym (mul-add-mod-self-right (s .cycles) w (turnAfter w ss c .place)) ∙ ap (λ (x : ℕ). x % w) (s .number)
 
   -- at place 0 no run is counted
-  pub counts-none : (c : ℕ) → after w ss c .place ≡ 0 → after w ss c .counts ≡ zeros coresLimit
+  pub counts-none : (c : ℕ) → turnAfter w ss c .place ≡ 0 → turnAfter w ss c .counts ≡ zeros coresLimit
   counts-none c e =
       let p = state c .pace in
-      ext-getD 0 (after w ss c .counts) (zeros coresLimit) (p .same ∙ long) (λ i l.
-      omega (arith, p .all, getD-le-sum (after w ss c .counts) i, zeros-at coresLimit i))
+      ext-getD 0 (turnAfter w ss c .counts) (zeros coresLimit) (p .same ∙ long) (λ i l.
+      omega (arith, p .all, getD-le-sum (turnAfter w ss c .counts) i, zeros-at coresLimit i))
 
   -- after w runs counts and place start from 0 again
-  pub cycle-end : (after w ss w .counts ≡ zeros coresLimit) × (after w ss w .place ≡ 0)
+  pub cycle-end : (turnAfter w ss w .counts ≡ zeros coresLimit) × (turnAfter w ss w .place ≡ 0)
   cycle-end = let e = place-after w ∙ mod-self w in (counts-none w e, e)
 
   -- so each run goes where the run w before it went
-  again : (k : ℕ) → after w ss (suc (k + w)) ≡ after w ss (suc k)
-  unfolding after
+  again : (k : ℕ) → turnAfter w ss (suc (k + w)) ≡ turnAfter w ss (suc k)
+  unfolding turnAfter
   again zero = let e : 0 + w ≡ w = omega arith in rw (e, cycle-end .0, cycle-end .1)
   again (suc k) = let e : suc k + w ≡ suc (k + w) = omega arith in rw (e, again k)
 

@@ -7,27 +7,27 @@ use native.Mathlib.Omega.{arith}
 use lib.ListN.{length, getD, take}
 use borrow.Author.Tests.{lt-ltb}
 use Rattle.units.specs.Limits.{coresLimit}
-use Rattle.lists.specs.Lists.{sum, parts, firstPart, bit}
+use Rattle.lists.specs.Lists.{total, parts, firstPart, bit}
 use Rattle.lists.proofs.Lists.{parts-none}
 use Rattle.lists.proofs.Parts.{parts-split, first-is}
 use Rattle.arith.specs.Ceiling.{ceilDiv}
 use Rattle.arith.proofs.Rounding.{ceil-least}
 use Rattle.turn.proofs.Choice.{open-share, Chosen, choice}
 use Rattle.turn.proofs.Counting.{turn-core}
-use Rattle.turn.specs.Runs.{after, coreOfRun, sent}
+use Rattle.turn.specs.Runs.{turnAfter, coreOfRun, sent}
 use Rattle.turn.proofs.Pace.{pace-behind}
 use Rattle.turn.proofs.Cycle.{state}
 
-module _ (w : ℕ) (ss : List ℕ) (pos : 0 < w) (shares : sum ss ≡ w) (long : length ss ≡ coresLimit) where
+module _ (w : ℕ) (ss : List ℕ) (pos : 0 < w) (shares : total ss ≡ w) (long : length ss ≡ coresLimit) where
   -- of the first c runs a core has had less than one more or less than its part
   pub near : (c p : ℕ) → (sent w ss (suc p) c * w < getD ss p 0 * c + w) × (getD ss p 0 * c < sent w ss (suc p) c * w + w)
   near c p =
       let s = state w ss pos shares long c in
       let x = getD ss p 0 in
-      let all : (s .cycles * w + after w ss c .place) * x ≡ c * x = ap (λ (n : ℕ). n * x) (s .number) in
-      let here : sent w ss (suc p) c * w ≡ (s .cycles * x + getD (after w ss c .counts) p 0) * w = ap (λ (n : ℕ). n * w) (s .runs p) in
+      let all : (s .cycles * w + turnAfter w ss c .place) * x ≡ c * x = ap (λ (n : ℕ). n * x) (s .number) in
+      let here : sent w ss (suc p) c * w ≡ (s .cycles * x + getD (turnAfter w ss c .counts) p 0) * w = ap (λ (n : ℕ). n * w) (s .runs p) in
       let low = s .pace .ahead p in
-      let high = pace-behind w (after w ss c .place) ss (after w ss c .counts) pos (s .pace) p in
+      let high = pace-behind w (turnAfter w ss c .place) ss (turnAfter w ss c .counts) pos (s .pace) p in
       (omega arith, omega arith)
 
   -- that is, its part rounded down or up
@@ -45,7 +45,7 @@ module _ (w : ℕ) (ss : List ℕ) (pos : 0 < w) (shares : sum ss ≡ w) (long :
   in-a-row a c p x e =
       let all : sent w ss (suc p) (a + c) * w ≡ (sent w ss (suc p) a + x) * w = ap (λ (n : ℕ). n * w) e in
       let before = near a p in
-      let after = near (a + c) p in
+      let turnAfter = near (a + c) p in
       (omega arith, omega arith)
 
   -- of w runs exactly its share
@@ -57,17 +57,17 @@ module _ (w : ℕ) (ss : List ℕ) (pos : 0 < w) (shares : sum ss ≡ w) (long :
       omega arith
 
   -- the core of a run is the one that document 01 names
-  pub run-chosen : (c : ℕ) → (j : ℕ) × (coreOfRun w ss c ≡ suc j) × Chosen w (after w ss c .place) ss (after w ss c .counts) coresLimit j
-  unfolding coreOfRun after
+  pub run-chosen : (c : ℕ) → (j : ℕ) × (coreOfRun w ss c ≡ suc j) × Chosen w (turnAfter w ss c .place) ss (turnAfter w ss c .counts) coresLimit j
+  unfolding coreOfRun turnAfter
   run-chosen c =
       let p = state w ss pos shares long c .pace in
-      let x = choice w (after w ss c .place) ss (after w ss c .counts) pos shares (p .all) (p .same) in
-      (x .0, turn-core w (after w ss c .place) ss (after w ss c .counts) ∙ x .1, rw long at (x .2))
+      let x = choice w (turnAfter w ss c .place) ss (turnAfter w ss c .counts) pos shares (p .all) (p .same) in
+      (x .0, turn-core w (turnAfter w ss c .place) ss (turnAfter w ss c .counts) ∙ x .1, rw long at (x .2))
 
   -- every run of a task with one positive share goes to its core
   pub fixed : parts ss ≡ 1 → (c : ℕ) → coreOfRun w ss c ≡ firstPart ss + 1
   fixed e c =
       let x = run-chosen c in
-      let h : 0 < getD ss (x .0) 0 = open-share w (after w ss c .place) ss (after w ss c .counts) (x .0) (x .2 .opened) in
+      let h : 0 < getD ss (x .0) 0 = open-share w (turnAfter w ss c .place) ss (turnAfter w ss c .counts) (x .0) (x .2 .opened) in
       let none = parts-none (take (x .0) ss) (omega (arith, parts-split ss (x .0), ap bit (lt-ltb 0 (getD ss (x .0) 0) h))) in
       omega (arith, x .1, first-is ss (x .0) h none)

@@ -7,7 +7,7 @@ use borrow.Author.Tests.{eqb-false}
 use lib.Dec.{eqb}
 use lib.ListN.{length, getD, length-set}
 use Rattle.units.specs.Limits.{coresLimit}
-use Rattle.lists.specs.Lists.{sum}
+use Rattle.lists.specs.Lists.{total}
 use Rattle.lists.proofs.Tests.{by-cases}
 use Rattle.lists.proofs.Lists.{sum-set, zeros-sum}
 use Rattle.turn.specs.declared.Turn.{Turn}
@@ -17,7 +17,7 @@ use Rattle.turn.proofs.Choice.{open-share, turn-choice}
 -- what the step hands on
 pub record Kept (w : ℕ) (ss : List ℕ) (r : Turn) : Type 0 where
   pub long : length (r .counts) ≡ coresLimit
-  pub counts : sum (r .counts) ≡ r .place
+  pub counts : total (r .counts) ≡ r .place
   pub below : r .place < w
   pub from : 0 < r .core
   pub to : r .core ≤ coresLimit

@@ -10,7 +10,7 @@ use borrow.Author.Tests.{ltb-true, ltb-false}
 use lib.Dec.{ltb}
 use lib.ListN.{length, getD, length-set, length-replicate, List·getD-eq-default}
 use lib.Seq.{getD-set-same, getD-set-other, ext-getD}
-use Rattle.lists.specs.Lists.{sum, zeros}
+use Rattle.lists.specs.Lists.{total, zeros}
 use Rattle.lists.proofs.Tests.{by-cases}
 use Rattle.lists.proofs.Lists.{sum-set, zeros-at, zeros-sum}
 use Rattle.arith.proofs.Rounding.{ceil-least}
@@ -21,7 +21,7 @@ use Rattle.turn.proofs.Behind.{gap, behind, behind-bound, behind-part, 
 -- after t runs of a cycle: the counts sum to t, no core is a whole run ahead, and by any later place no more runs are due than there are places
 pub record Pace (w t : ℕ) (ss ns : List ℕ) : Type 0 where
   pub same : length ns ≡ length ss
-  pub all : sum ns ≡ t
+  pub all : total ns ≡ t
   pub ahead : (i : ℕ) → getD ns i 0 * w < getD ss i 0 * t + w
   pub late : (e : ℕ) → behind w (t + e) ss ns ≤ e
 
@@ -39,7 +39,7 @@ gap-closed w s n t e h =
     let q : s * (t + 1 + e) / w * w ≤ s * (t + 1 + e) = div-mul-le-self (s * (t + 1 + e)) w in
     rw (mul-comm (gap w (t + 1 + e) s n) w, mul-sub w (s * (t + 1 + e) / w) n) (omega arith)
 
-module _ (w t : ℕ) (ss ns : List ℕ) (pos : 0 < w) (shares : sum ss ≡ w) (p : Pace w t ss ns) (j : ℕ) (c : Chosen w t ss ns (length ss) j) where
+module _ (w t : ℕ) (ss ns : List ℕ) (pos : 0 < w) (shares : total ss ≡ w) (p : Pace w t ss ns) (j : ℕ) (c : Chosen w t ss ns (length ss) j) where
   -- with a run more of the chosen core none is a whole run ahead
   ahead-more : (i : ℕ) → getD (more ns j) i 0 * w < getD ss i 0 * (t + 1) + w
   ahead-more i = go (ℕ-discrete i j)
@@ -88,7 +88,7 @@ module _ (w t : ℕ) (ss ns : List ℕ) (pos : 0 < w) (shares : sum ss ≡ w) (p
   }
 
 -- no run yet
-pub pace-start : (w : ℕ) (ss : List ℕ) → 0 < w → sum ss ≡ w → Pace w 0 ss (zeros (length ss))
+pub pace-start : (w : ℕ) (ss : List ℕ) → 0 < w → total ss ≡ w → Pace w 0 ss (zeros (length ss))
 pace-start w ss pos shares = record {
   same = length-replicate (length ss) 0;
   all = zeros-sum (length ss);

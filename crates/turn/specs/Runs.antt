@@ -7,13 +7,13 @@ use Rattle.turn.specs.declared.Turn.{Turn}
 use Rattle.turn.specs.Turn.{fresh, nextTurn}
 
 -- counts and place after c accepted runs
-unfoldable pub after : ℕ → List ℕ → ℕ → Turn
-after w ss zero = fresh
-after w ss (suc c) = nextTurn w ss (after w ss c)
+unfoldable pub turnAfter : ℕ → List ℕ → ℕ → Turn
+turnAfter w ss zero = fresh
+turnAfter w ss (suc c) = nextTurn w ss (turnAfter w ss c)
 
 -- the core of run number c, counted from 0
 unfoldable pub coreOfRun : ℕ → List ℕ → ℕ → ℕ
-coreOfRun w ss c = after w ss (suc c) .core
+coreOfRun w ss c = turnAfter w ss (suc c) .core
 
 -- how many of the first c runs go to core p, counted from 1
 unfoldable pub sent : ℕ → List ℕ → ℕ → ℕ → ℕ

@@ -7,7 +7,7 @@ use mathlib.Core.List.{List, [], _∷_}
 use lib.Dec.{ltb, eqb}
 use lib.ListN.{getD, set}
 use Rattle.units.specs.Limits.{coresLimit, commonLimit}
-use Rattle.lists.specs.Lists.{zeros, sum}
+use Rattle.lists.specs.Lists.{zeros, total}
 use Rattle.arith.specs.Ceiling.{ceilDiv}
 use Rattle.turn.specs.declared.Best.{Best}
 use Rattle.turn.specs.declared.Turn.{Turn}
@@ -21,8 +21,8 @@ abbrev pub duePlace : ℕ → ℕ → ℕ → ℕ
 duePlace w s n = ceilDiv ((n + 1) * w) s
 
 -- the better of the best core so far and core j: open, with the least due place, lowest core at a tie
-abbrev pub better : ℕ → ℕ → Best → ℕ → ℕ → ℕ → Best
-better w t b j s n =
+abbrev pub betterCore : ℕ → ℕ → Best → ℕ → ℕ → ℕ → Best
+betterCore w t b j s n =
     cond (isOpen w t s n && (eqb (b .core) 0 || ltb (duePlace w s n) (b .due)))
     (record { core = j; due = duePlace w s n })
     b
@@ -31,7 +31,7 @@ better w t b j s n =
 unfoldable pub bestFrom : ℕ → ℕ → ℕ → Best → List ℕ → List ℕ → Best
 bestFrom w t j b [] ns = b
 bestFrom w t j b (s ∷ ss) [] = b
-bestFrom w t j b (s ∷ ss) (n ∷ ns) = bestFrom w t (suc j) (better w t b j s n) ss ns
+bestFrom w t j b (s ∷ ss) (n ∷ ns) = bestFrom w t (suc j) (betterCore w t b j s n) ss ns
 
 -- nobody yet
 abbrev pub nobody : Best
@@ -61,8 +61,8 @@ turnOf w t ss ns = counted w t ns (coreOf w t ss ns)
 pub record Turnable (w t : ℕ) (ss ns : List ℕ) : Type 0 where
   pub small : w ≤ commonLimit
   pub below : t < w
-  pub shares : sum ss ≡ w
-  pub counts : sum ns ≡ t
+  pub shares : total ss ≡ w
+  pub counts : total ns ≡ t
 
 -- the counts and the place of a fresh plan
 abbrev pub fresh : Turn

@@ -6,8 +6,8 @@ ghost use Prim.Native.Nat.{_≤_, _<_};
 ghost use mathlib.Core.Path.{_≡_};
 ghost use Rattle.units.specs.Limits.{coresLimit};
 ghost use Rattle.units.specs.Units.{nums};
-ghost use Rattle.lists.specs.Lists.{sum};
-ghost use Rattle.turn.specs.Turn.{better as betterOf, counted as countedOf, turnOf, Turnable};
+ghost use Rattle.lists.specs.Lists.{total};
+ghost use Rattle.turn.specs.Turn.{betterCore as betterOf, counted as countedOf, turnOf, Turnable};
 
 // The best core so far, from 1 (0: none), and the place by which its next run is due.
 pub struct Best {
@@ -59,7 +59,7 @@ pub fn turn_of(weight: Share, place: u32, shares: [Share; CORES], counts: [u32; 
 
 // The run is counted; after the last run of a cycle counts and place start from 0 again.
 fn counted(core: usize, counts: [u32; CORES], weight: u32, place: u32) -> Turn
-    requires { ⌜ (0 < core) × (core ≤ coresLimit) × (place < weight) × (sum counts ≡ place) ⌝ }
+    requires { ⌜ (0 < core) × (core ≤ coresLimit) × (place < weight) × (total counts ≡ place) ⌝ }
     ensures { λ r. ⌜ r ≡ countedOf weight place counts core ⌝ }
 {
     if place + 1 == weight {

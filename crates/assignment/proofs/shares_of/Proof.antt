@@ -1,7 +1,7 @@
 use mathlib.Core.Path.{_∙_}
 use Rattle.units.specs.Units.{nums}
 use Rattle.units.proofs.Units.{nums-long, field-long}
-use Rattle.assignment.specs.Passes.{blank}
+use Rattle.assignment.specs.Passes.{emptyRows}
 use Rattle.assignment.proofs.Ordered.{among, shares-are}
 use borrow.Author.Needs.{needs}
 use Rattle.assignment.proofs.shares_of.Statement.{statement}
@@ -15,7 +15,7 @@ pass-one-requires c κs =
     rw (c .order-of .ensures) (among (nums (c .before .args .weights)) (search (needs, nums-long)))
 
 returns : tie.Need-returns
-unfolding blank
+unfolding emptyRows
 returns c =
     let s = c .before .before in
     c .pass-one .ensures

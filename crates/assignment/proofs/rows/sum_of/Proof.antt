@@ -1,5 +1,5 @@
 use Rattle.assignment.proofs.RowPassed.{sum-more, none-left}
-use Rattle.lists.specs.Lists.{sum as sumOf}
+use Rattle.lists.specs.Lists.{total as sumOf}
 use Rattle.units.specs.Units.{nums}
 use Rattle.units.specs.Limits.{coresLimit}
 use borrow.Author.Needs.{needs}

@@ -9,7 +9,7 @@ use borrow.Author.Needs.{needs}
 use Rattle.units.specs.Limits.{coresLimit, tasksLimit, commonLimit}
 use Rattle.units.specs.Units.{nums}
 use Rattle.units.proofs.Units.{nums-at}
-use Rattle.lists.specs.Lists.{sum}
+use Rattle.lists.specs.Lists.{total}
 use Rattle.lists.proofs.Lists.{getD-le-sum}
 use Rattle.planning.specs.declared.Line.{Line}
 use Rattle.planning.specs.Plan.{noLine, rowOf}
@@ -50,7 +50,7 @@ tested c =
 row-long : (c : tie.In-loop Inv-loop2 μ-loop2 Inv-loop μ-loop) → length (lineOf c .shares) ≡ coresLimit
 row-long c = wide (c .before .before .args .t1) _ (c .before .before .good .0 .1 .1) (c .before .loop .i - 1) (omega (arith, long (c .before .before)))
 
-weighed : (c : tie.In-loop Inv-loop2 μ-loop2 Inv-loop μ-loop) → (sum (rowOf (lineOf c)) ≡ lineOf c .weight .0) × (lineOf c .weight .0 ≤ commonLimit)
+weighed : (c : tie.In-loop Inv-loop2 μ-loop2 Inv-loop μ-loop) → (total (rowOf (lineOf c)) ≡ lineOf c .weight .0) × (lineOf c .weight .0 ≤ commonLimit)
 weighed c = c .before .before .pre (c .before .loop .i - 1) (omega arith)
 
 all-light : (c : tie.In-loop Inv-loop2 μ-loop2 Inv-loop μ-loop) → (p : ℕ) → p < coresLimit → Light (getD (c .before .loop .tallies) p noTally)

@@ -3,13 +3,13 @@ use mathlib.Core.Bool.{true}
 use borrow.Author.Needs.{needs}
 use borrow.Author.Tests.{not-true, not-false}
 use lib.Dec.{eqb}
-use Rattle.lists.specs.Lists.{sum}
+use Rattle.lists.specs.Lists.{total}
 use Rattle.task_state.proofs.Ruled.{other-sum, used-left, other-left}
 use Rattle.task_state.proofs.State.ok.Statement.{statement}
 use Rattle.task_state.proofs.State.ok.Tie as tie
 
 -- the counts sum to the place
-summed : (c : tie.Else1) → let st = c .before .before .before .args .self in eqb (sum (st .counts)) (st .place) ≡ true
+summed : (c : tie.Else1) → let st = c .before .before .before .args .self in eqb (total (st .counts)) (st .place) ≡ true
 summed c = sym (c .before .sums-to .ensures) ∙ not-false _ (c .if1 .left)
 
 sums-to-requires : tie.Need-sums-to-requires

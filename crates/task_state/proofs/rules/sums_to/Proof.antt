@@ -6,17 +6,17 @@ use lib.ListN.{length, take}
 use lib.Seq.{take-all}
 use borrow.Author.Needs.{needs}
 use Rattle.units.specs.Limits.{coresLimit}
-use Rattle.lists.specs.Lists.{sum}
+use Rattle.lists.specs.Lists.{total}
 use Rattle.lists.proofs.Lists.{sum-take-suc}
 use Rattle.task_state.proofs.rules.sums_to.Statement.{statement}
 use Rattle.task_state.proofs.rules.sums_to.Tie as tie
 
 -- the counts so far are added
 abbrev Inv-loop : tie.InvT-loop
-Inv-loop total counts all₀ p₀ all p = (p ≤ coresLimit) × (all ≤ p * 4294967295) × (all ≡ sum (take p counts))
+Inv-loop place counts all₀ p₀ all p = (p ≤ coresLimit) × (all ≤ p * 4294967295) × (all ≡ total (take p counts))
 
 abbrev μ-loop : tie.MeasureT-loop
-μ-loop total counts all₀ p₀ all p = coresLimit - p
+μ-loop place counts all₀ p₀ all p = coresLimit - p
 
 loop-holds : tie.Need-loop-holds Inv-loop μ-loop
 loop-holds c = omega arith
