@@ -1,12 +1,10 @@
 -- Tests 5 and 6, and the answer.
-use Prim.Native.Nat.{ℕ, zero, suc, _+_, _*_, _/_, _≤_, _<_, _∣_}
+use Prim.Native.Nat.{ℕ, _*_, _≤_, _<_, _∣_}
 use mathlib.Core.Path.{_≡_, refl, sym, ap, _∙_, subst}
-use mathlib.Core.Bool.{Bool, true, false, cond}
 use mathlib.Core.List.{List}
 use native.Mathlib.Omega.{arith}
 use native.Mathlib.Nat.{mul-le-mul}
-use lib.Dec.{ltb, eqb}
-use lib.ListN.{length, getD}
+use lib.ListN.{getD}
 use borrow.Author.Tests.{eq-eqb, ne-eqb, lt-ltb, le-ltb}
 use Rattle.units.specs.Limits.{coresLimit, commonLimit}
 use Rattle.lists.specs.Lists.{total}
@@ -16,12 +14,11 @@ use Rattle.arith.proofs.Table.{periods-at, periods-length}
 use Rattle.arith.proofs.Common.{common-each}
 use Rattle.arith.proofs.Within.{period-common}
 use Rattle.admission.specs.declared.refusals.Refusal.{Refusal}
-use Rattle.admission.specs.declared.admit.Admission.{Admission}
 use Rattle.admission.specs.Weight.{weights, Weighable}
 use Rattle.admission.specs.Refusals.{refusal, taken, _orElse_, inputTest, weightsTest}
 use Rattle.admission.specs.Admission.{periodTest, planRefusal, refusedWith, takenWith, admissionOf}
 use Rattle.admission.proofs.First.{decides, leaves}
-use Rattle.admission.proofs.Kept.{Kept, Fine, kept, neither}
+use Rattle.admission.proofs.Kept.{Kept, kept, neither}
 
 -- a refusal is answered with it
 pub answered : (m : ℕ) (xs : List ℕ) (f : Refusal) → f ≡ planRefusal m xs → (f .no ≡ 0 → ⊥) → refusedWith f ≡ admissionOf m xs

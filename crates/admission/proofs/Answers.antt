@@ -1,16 +1,13 @@
 -- What admission's answer says.
 use Prim.Native.Nat.{ℕ}
-use mathlib.Core.Path.{_≡_, refl, sym, ap, _∙_}
-use mathlib.Core.Bool.{Bool, true, false, cond}
+use mathlib.Core.Path.{_≡_, sym}
 use mathlib.Core.List.{List}
 use lib.Dec.{eqb}
-use borrow.Author.Tests.{eqb-true, eqb-false, eq-eqb, ne-eqb}
+use borrow.Author.Tests.{eqb-true, eq-eqb, ne-eqb}
 use Rattle.lists.proofs.Tests.{by-cases}
 use Rattle.arith.specs.Period.{periods, common}
 use Rattle.admission.specs.Weight.{weights}
 use Rattle.admission.specs.Admission.{planRefusal, refusedWith, takenWith, admissionOf}
-use Rattle.admission.specs.declared.refusals.Refusal.{Refusal}
-use Rattle.admission.specs.declared.admit.Admission.{Admission}
 
 -- the first refusal that applies is answered
 pub says-refusal : (m : ℕ) (xs : List ℕ) → admissionOf m xs .refusal .no ≡ planRefusal m xs .no

@@ -1,7 +1,5 @@
 -- The first of several tests that refuses.
-use Prim.Native.Nat.{ℕ}
 use mathlib.Core.Path.{_≡_, sym, ap, _∙_}
-use lib.Dec.{eqb}
 use borrow.Author.Tests.{eq-eqb, ne-eqb}
 use Rattle.admission.specs.declared.refusals.Refusal.{Refusal}
 use Rattle.admission.specs.Refusals.{_orElse_}

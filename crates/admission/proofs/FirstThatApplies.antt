@@ -4,9 +4,9 @@ use mathlib.Core.Path.{_≡_, refl, ap}
 use mathlib.Core.Logic.{_↔_, _⊎_, ⊎-elim}
 use mathlib.Core.List.{List}
 use native.Mathlib.Omega.{arith}
-use Rattle.arith.specs.Period.{periods}
+use Rattle.arith.specs.Period.{periods, First}
 use Rattle.arith.proofs.Table.{periods-length}
-use Rattle.arith.proofs.Within.{First, period-over, over-period, over-large, large-over}
+use Rattle.arith.proofs.Within.{period-over, over-period, over-large, large-over}
 use Rattle.admission.specs.Refusals.{refusal}
 use Rattle.admission.specs.Admission.{planRefusal}
 use Rattle.admission.specs.declared.refusals.Refusal.{Refusal}

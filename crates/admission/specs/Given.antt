@@ -1,8 +1,7 @@
 -- Planning's rows of document 01, "Refusal numbers", each with the earlier ones not applying.
 use Prim.Native.Nat.{ℕ, suc, _<_}
 use mathlib.Core.List.{List}
-use Rattle.arith.specs.Period.{periods}
-use Rattle.arith.proofs.Within.{First}
+use Rattle.arith.specs.Period.{periods, First}
 use Rattle.admission.specs.Words.{
   CoresIn,
   CoresOut,

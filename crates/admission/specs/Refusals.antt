@@ -1,6 +1,6 @@
 -- Planning's refusals, document 01, "Refusal numbers", in the order in which they are tested.
 use Prim.Native.Nat.{ℕ, suc, _*_, _%_}
-use mathlib.Core.Bool.{Bool, cond, _||_}
+use mathlib.Core.Bool.{cond, _||_}
 use mathlib.Core.List.{List, [], _∷_}
 use lib.Dec.{ltb, eqb}
 use lib.ListN.{length}

@@ -3,7 +3,6 @@ use units::limits::CORES;
 use units::limits::PERIOD;
 use units::limits::TASKS;
 ghost use mathlib.Core.Path.{_≡_};
-ghost use lib.ListN.{length};
 ghost use Rattle.admission.specs.Refusals.{coresTest, tableTest, taskTest, tasksTest, inputTest};
 
 // A refusal's number and the task that it names, 0 and 0 for none.

@@ -10,7 +10,7 @@ use lib.Seq.{take-nil, take-length}
 use Rattle.lists.proofs.Tests.{by-cases}
 use Rattle.units.specs.Limits.{commonLimit}
 use Rattle.arith.specs.Divisor.{lcm}
-use Rattle.arith.specs.Period.{commonFrom, common, periodFrom, periodOf}
+use Rattle.arith.specs.Period.{commonFrom, common, periodFrom, periodOf, First}
 use Rattle.arith.specs.declared.period.Period.{Period}
 use Rattle.arith.specs.declared.period.Period.the-variants.{Common, Over}
 use Rattle.arith.proofs.Common.{Each, common-grows}
@@ -57,13 +57,6 @@ says l k (t ∷ ts) h =
     by-cases (ltb commonLimit (lcm l t))
     (λ e. rw e (says-here l t ts h k (ltb-true commonLimit (lcm l t) e)))
     (λ e. rw e (says-more l t ts h k (periodFrom (lcm l t) (suc k) ts) (says (lcm l t) (suc k) ts (ltb-false commonLimit (lcm l t) e))))
-
--- k is the first of these tasks, from 1, whose period takes the common period of the tasks so far over the limit
-pub record First (ts : List ℕ) (k : ℕ) : Type 0 where
-  pub from : 1 ≤ k
-  pub to : k ≤ length ts
-  pub before : (j : ℕ) → j < k → common (take j ts) ≤ commonLimit
-  pub over : commonLimit < common (take k ts)
 
 -- and so for all tasks of a table
 answer : (ts : List ℕ) (p : Period) → periodOf ts ≡ p → Says 1 1 ts p

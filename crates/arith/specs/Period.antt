@@ -1,8 +1,9 @@
 -- The common period L, the least common multiple of all periods, kept within its limit.
-use Prim.Native.Nat.{ℕ, suc}
+use Prim.Native.Nat.{ℕ, suc, _≤_, _<_}
 use mathlib.Core.Bool.{Bool, true, false}
 use mathlib.Core.List.{List, [], _∷_}
 use lib.Dec.{ltb}
+use lib.ListN.{length, take}
 use Rattle.units.specs.Limits.{commonLimit}
 use Rattle.arith.specs.Divisor.{lcm}
 use Rattle.arith.specs.declared.period.Period.{Period}
@@ -36,3 +37,10 @@ periodFrom l k (t ∷ ts) = pickPeriod (ltb commonLimit (lcm l t)) (Over k) (per
 -- the common period within its limit, or the task, from 1, that takes it over
 unfoldable pub periodOf : List ℕ → Period
 periodOf ts = periodFrom 1 1 ts
+
+-- k is the first of these tasks, from 1, whose period takes the common period of the tasks so far over the limit
+pub record First (ts : List ℕ) (k : ℕ) : Type 0 where
+  pub from : 1 ≤ k
+  pub to : k ≤ length ts
+  pub before : (j : ℕ) → j < k → common (take j ts) ≤ commonLimit
+  pub over : commonLimit < common (take k ts)

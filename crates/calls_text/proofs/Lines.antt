@@ -1,9 +1,8 @@
 -- A call's line that can be read has nine bytes or more.
-use Prim.Native.Nat.{ℕ, _+_, _≤_, _<_}
+use Prim.Native.Nat.{ℕ, _+_, _≤_}
 use mathlib.Core.Path.{_≡_, refl, sym, _∙_}
 use mathlib.Core.List.{List}
 use native.Mathlib.Omega.{arith}
-use lib.ListN.{length}
 use Rattle.writing.specs.Ascii.{ascii}
 use Rattle.scanning.specs.Line.{pairAt}
 use Rattle.scanning.specs.Word.{wordAt}

@@ -1,6 +1,5 @@
 -- A call's line: `release TASK TIME`, `finish TASK TIME` or `look CORE TIME`.
 use Prim.Native.Nat.{ℕ}
-use Prim.Native.String.{String}
 use mathlib.Core.List.{List}
 use Rattle.writing.specs.Ascii.{ascii}
 use Rattle.scanning.specs.Line.{pairAt}

@@ -1,6 +1,6 @@
 -- Demand 2 over planning's answer: which lists are taken, and what the plan of a taken list is.
 use Prim.Native.Nat.{ℕ, _*_, _≤_, _<_, _∣_}
-use mathlib.Core.Path.{_≡_, refl, sym, ap, _∙_, subst, subst⁻¹}
+use mathlib.Core.Path.{_≡_, sym, _∙_}
 use mathlib.Core.Logic.{_↔_}
 use mathlib.Core.Bool.{true}
 use mathlib.Core.List.{List}
@@ -10,8 +10,7 @@ use lib.ListN.{getD}
 use lib.Signed.{leZ}
 use borrow.Author.Tests.{eqb-true}
 use Rattle.lists.proofs.Tests.{by-cases}
-use Rattle.admission.specs.declared.refusals.Refusal.{Refusal}
-use Rattle.admission.specs.Refusals.{refusal, taken}
+use Rattle.admission.specs.Refusals.{refusal}
 use Rattle.admission.specs.Admission.{planRefusal}
 use Rattle.admission.specs.Words.{CoresIn, TableIn, RangesIn, NoneOver, PeriodIn, AllFit, tasks, cost, period, commonOf, weightOf}
 use Rattle.admission.specs.Given.{Given, none}

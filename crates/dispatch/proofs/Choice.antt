@@ -21,7 +21,7 @@ use Rattle.dispatch.specs.Shape.{Good}
 use Rattle.dispatch.specs.Choice.{deadlineAt, keyAt, UpperOn, LowerOn, FixedOn, Least, None, First, Answer, Chosen, as-upper, as-lower, as-fixed}
 use Rattle.dispatch.proofs.Held.{held}
 use Rattle.dispatch.proofs.Answers.{look-choice}
-use Rattle.dispatch.proofs.Plans.{sound-kept}
+use Rattle.soundness.proofs.SoundKept.{sound-kept}
 use Rattle.dispatch.proofs.Search.{Found, found}
 use Rattle.dispatch.proofs.Waiting.{Keyed, upper-key, lower-key, fixed-key, key-upper, key-lower, key-fixed, waits-in, waits-keyed}
 

@@ -27,7 +27,8 @@ use Rattle.dispatch.specs.Refusals.{taskNo, lookNo, releaseNo, finishNo}
 use Rattle.dispatch.specs.Release.{takeRelease, refuseRelease, releaseOf}
 use Rattle.dispatch.specs.Finish.{takeFinish, refuseFinish, finishOf}
 use Rattle.dispatch.specs.Look.{lookOf}
-use Rattle.dispatch.specs.Shape.{PlanShaped, Good}
+use Rattle.dispatch.specs.Shape.{Good}
+use Rattle.planning.specs.Shape.{PlanShaped}
 use Rattle.dispatch.specs.Calls.{release, finish, look, coresOf}
 use Rattle.dispatch.proofs.Fresh.{fresh-good}
 

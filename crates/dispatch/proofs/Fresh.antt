@@ -12,12 +12,13 @@ use Rattle.lists.proofs.Tests.{by-cases}
 use Rattle.planning.specs.declared.Plan.{Plan}
 use Rattle.soundness.specs.Plan.{planSound}
 use Rattle.task_state.specs.State.{freshState, noState}
-use Rattle.task_state.proofs.Shape.{Shaped as StateShaped}
+use Rattle.task_state.specs.Shape.{Shaped as StateShaped}
 use Rattle.task_state.proofs.Fresh.{fresh-shaped, fresh-sound, fresh-empty}
 use Rattle.dispatch.specs.Record.{recordOf, lineAt, stateAt}
 use Rattle.dispatch.specs.Sound.{stateOk}
-use Rattle.dispatch.specs.Shape.{PlanShaped, Good}
-use Rattle.dispatch.proofs.Facts.{lined}
+use Rattle.dispatch.specs.Shape.{Good}
+use Rattle.planning.specs.Shape.{PlanShaped}
+use Rattle.soundness.proofs.Lined.{lined}
 use Rattle.dispatch.proofs.Held.{held, sound}
 
 module _ (pl : Plan) where

@@ -3,7 +3,6 @@ pub mod Passed
 pub mod Called
 pub mod Numbers
 pub mod Looking
-pub mod Facts
 pub mod Stored
 pub mod Records
 pub mod Answers
@@ -16,7 +15,6 @@ pub mod Sequence
 pub mod Counted
 pub mod Demand3
 pub mod Search
-pub mod Plans
 pub mod Waiting
 pub mod Choice
 pub mod Example

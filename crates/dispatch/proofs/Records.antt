@@ -15,11 +15,11 @@ use Rattle.task_state.specs.Sound.{stateSound, stateEmpty}
 use Rattle.dispatch.specs.declared.Record.{Record}
 use Rattle.dispatch.specs.Record.{lineAt, stateAt, moved}
 use Rattle.dispatch.specs.Look.{atTime}
-use Rattle.task_state.proofs.Shape.{Shaped as StateShaped}
+use Rattle.task_state.specs.Shape.{Shaped as StateShaped}
 use Rattle.dispatch.proofs.Held.{held, sound, state-sound, task-below}
 use Rattle.dispatch.specs.Shape.{Good}
 use Rattle.dispatch.proofs.Stored.{stored}
-use Rattle.dispatch.proofs.Facts.{Lined, lined}
+use Rattle.soundness.proofs.Lined.{Lined, lined}
 
 module _ (r : Record) (g : Good r) where
   module _ (i : ℕ) (h : i < r .plan .count) where

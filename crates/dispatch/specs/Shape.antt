@@ -2,19 +2,13 @@
 use Prim.Native.Nat.{ℕ, _<_}
 use mathlib.Core.Path.{_≡_}
 use mathlib.Core.Bool.{true}
-use lib.ListN.{length, getD}
-use Rattle.units.specs.Limits.{coresLimit, tasksLimit}
-use Rattle.planning.specs.declared.Plan.{Plan}
-use Rattle.planning.specs.Plan.{noLine}
-use Rattle.task_state.proofs.Shape.{Shaped as StateShaped}
+use lib.ListN.{length}
+use Rattle.units.specs.Limits.{tasksLimit}
+use Rattle.task_state.specs.Shape.{Shaped as StateShaped}
 use Rattle.dispatch.specs.declared.Record.{Record}
 use Rattle.dispatch.specs.Record.{stateAt}
 use Rattle.dispatch.specs.Sound.{soundOf}
-
--- sixty-four lines of sixteen shares
-pub record PlanShaped (pl : Plan) : Type 0 where
-  pub lines : length (pl .lines) ≡ tasksLimit
-  pub shares : (i : ℕ) → i < tasksLimit → length (getD (pl .lines) i noLine .shares) ≡ coresLimit
+use Rattle.planning.specs.Shape.{PlanShaped}
 
 -- the same of a record, with sixty-four states of sixteen counts and eight runs
 pub record Shaped (r : Record) : Type 0 where

@@ -13,10 +13,7 @@ use Rattle.admission.specs.Admission.{planRefusal}
 use Rattle.admission.specs.Words.{CoresIn, CoresOut, TableOut}
 use Rattle.admission.specs.Given.{one, two}
 use Rattle.admission.proofs.Gives.{gives-no}
-
--- refusal 1 where the core count is 0 or above 16, else 2
-abbrev pub OneOrTwo : ℕ → ℕ → Type 0
-OneOrTwo m n = (CoresOut m → n ≡ 1) × (CoresIn m → n ≡ 2)
+use Rattle.host.specs.Words.{OneOrTwo}
 
 -- a core count is out of range or in it
 cores : (m : ℕ) → CoresOut m ⊎ CoresIn m

@@ -10,7 +10,7 @@ use Rattle.admission.specs.Admission.{planRefusal}
 use Rattle.planning.specs.Plan.{planOf}
 use Rattle.soundness.proofs.Taken.{plan-number}
 use Rattle.soundness.proofs.PlannedSound.{plan-sound}
-use Rattle.dispatch.proofs.Started.{started-plan}
+use Rattle.soundness.proofs.PlannedShape.{started-plan}
 use Rattle.listing.specs.declared.listed.Listed.{Listed}
 use Rattle.listing.specs.Listing.{listingText}
 use Rattle.listing.specs.Listed.{planListed}

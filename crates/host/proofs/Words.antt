@@ -15,7 +15,8 @@ use Rattle.listing.specs.Listing.{listingText}
 use Rattle.listing.specs.Listed.{planListed, planAfter}
 use Rattle.host.specs.Host.{tableIn, admitOf, negative, answered, hostListed, hostAfter}
 use Rattle.host.proofs.Numbers.{numbers-length}
-use Rattle.host.proofs.Out.{OneOrTwo, out}
+use Rattle.host.proofs.Out.{out}
+use Rattle.host.specs.Words.{OneOrTwo}
 use Rattle.host.proofs.Short.{listing-short}
 
 module _ (m : ℕ) (bytes : List ℕ) where

@@ -1,7 +1,7 @@
 -- How long a listing may be.
-use Prim.Native.Nat.{ℕ, zero, suc, _+_, _*_, _≤_, _<_}
-use mathlib.Core.Path.{_≡_, refl, sym, _∙_}
-use mathlib.Core.Bool.{true, false}
+use Prim.Native.Nat.{ℕ, zero, suc, _+_, _*_, _≤_}
+use mathlib.Core.Path.{_≡_}
+use mathlib.Core.Bool.{true}
 use mathlib.Core.List.{List, [], _∷_, _++_}
 use native.Mathlib.Omega.{arith}
 use lib.Dec.{eqb}
@@ -13,7 +13,6 @@ use Rattle.units.specs.Limits.{coresLimit, tasksLimit, periodLimit, commonLimit
 use Rattle.units.proofs.Units.{nums-long}
 use Rattle.lists.specs.Lists.{total}
 use Rattle.lists.proofs.Tests.{by-cases}
-use Rattle.writing.specs.Ascii.{ascii}
 use Rattle.writing.specs.Decimal.{decimalOf, signedOf}
 use Rattle.writing.proofs.Decimal.{decimal-length}
 use Rattle.assignment.specs.Movers.{moves}
@@ -26,8 +25,9 @@ use Rattle.lateness.proofs.Range.{late-range}
 use Rattle.soundness.specs.Plan.{planSound}
 use Rattle.soundness.proofs.Facts.{tasks-few, weight-small, shares-sum}
 use Rattle.dispatch.specs.declared.Record.{Record}
-use Rattle.dispatch.specs.Shape.{PlanShaped, Good}
-use Rattle.dispatch.proofs.Plans.{sound-kept}
+use Rattle.dispatch.specs.Shape.{Good}
+use Rattle.planning.specs.Shape.{PlanShaped}
+use Rattle.soundness.proofs.SoundKept.{sound-kept}
 use Rattle.dispatch.proofs.Held.{held}
 use Rattle.listing.specs.Listed.{planListed, listedOf}
 use Rattle.writing.specs.Field.{field, lineEnd}

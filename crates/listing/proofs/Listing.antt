@@ -25,7 +25,8 @@ use Rattle.soundness.specs.Plan.{planSound}
 use Rattle.soundness.proofs.Facts.{ruled}
 use Rattle.soundness.proofs.PlannedLines.{zero-row}
 use Rattle.dispatch.specs.declared.Record.{Record}
-use Rattle.dispatch.specs.Shape.{PlanShaped, Good}
+use Rattle.dispatch.specs.Shape.{Good}
+use Rattle.planning.specs.Shape.{PlanShaped}
 use Rattle.dispatch.proofs.Held.{held}
 use Rattle.listing.specs.Listing.{headText, taskText, tasksText, listingText}
 use Rattle.listing.proofs.Digits.{field-cut}

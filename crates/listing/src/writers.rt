@@ -10,8 +10,6 @@ use writing::put_field;
 use writing::put_signed;
 use writing::put_text;
 ghost use mathlib.Core.Path.{_≡_};
-ghost use mathlib.Core.Bool.{cond};
-ghost use mathlib.Core.List.{_++_};
 ghost use Prim.Native.Nat.{_+_, _*_, _≤_};
 ghost use Rattle.units.specs.Limits.{tasksLimit};
 ghost use Rattle.units.specs.Units.{nums};

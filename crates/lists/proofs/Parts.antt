@@ -6,7 +6,7 @@ use native.Mathlib.Omega.{arith}
 use lib.Dec.{ltb, eqb·suc-zero}
 use lib.ListN.{getD, take, drop}
 use borrow.Author.Tests.{lt-ltb}
-use Rattle.lists.specs.Lists.{total, most, parts, firstPart, bit}
+use Rattle.lists.specs.Lists.{total, parts, firstPart, bit}
 use Rattle.lists.proofs.Lists.{parts-cons, parts-none, sum-take-suc, sum-ends}
 
 -- those before, at and after a place

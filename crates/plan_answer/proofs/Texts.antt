@@ -16,7 +16,7 @@ use Rattle.soundness.proofs.Taken.{plan-number, plan-kept}
 use Rattle.soundness.proofs.PlannedSound.{plan-sound}
 use Rattle.soundness.specs.Plan.{planSound}
 use Rattle.soundness.proofs.Facts.{tasks-few}
-use Rattle.dispatch.proofs.Started.{started-plan}
+use Rattle.soundness.proofs.PlannedShape.{started-plan}
 use Rattle.listing.specs.Listing.{listingText}
 use Rattle.listing.proofs.Fits.{listing-length}
 use Rattle.table_text.specs.Text.{says, unreadable, textOf}

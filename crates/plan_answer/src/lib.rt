@@ -7,7 +7,6 @@ use table_text::Reading;
 use table_text::read_text;
 use writing::put_byte;
 use writing::put_field;
-ghost use mathlib.Core.Path.{_≡_};
 ghost use Prim.Native.Nat.{_+_, _≤_};
 ghost use Rattle.writing.specs.Limits.{placeLimit};
 ghost use Rattle.writing.specs.Wrote.{Wrote};

@@ -1,6 +1,6 @@
 -- The answer of planning, from admission's.
 use Prim.Native.Nat.{ℕ, _*_, _≤_}
-use mathlib.Core.Path.{_≡_, refl, sym, ap, ap₂, _∙_}
+use mathlib.Core.Path.{_≡_, sym, ap, ap₂, _∙_}
 use mathlib.Core.List.{List}
 use lib.ListN.{length}
 use borrow.Author.Tests.{eq-eqb, ne-eqb}
@@ -12,11 +12,9 @@ use Rattle.admission.specs.Weight.{weights, padded}
 use Rattle.admission.specs.Refusals.{taken}
 use Rattle.admission.specs.Admission.{planRefusal, refusedWith, takenWith, admissionOf}
 use Rattle.admission.specs.declared.admit.Admission.{Admission}
-use Rattle.admission.specs.declared.refusals.Refusal.{Refusal}
 use Rattle.admission.proofs.Admitting.{passed}
 use Rattle.admission.proofs.Answers.{says-refusal, says-refused, says-taken}
 use Rattle.admission.proofs.Kept.{Kept, kept}
-use Rattle.planning.specs.declared.Plan.{Plan}
 use Rattle.planning.specs.Plan.{planFor, refusedPlan, takenPlan, planOf}
 
 module _ (m : ℕ) (xs : List ℕ) (a : Admission) (e : a ≡ admissionOf m xs) where

@@ -1,6 +1,5 @@
 -- What a plan keeps, whoever drew it: every number in its range, and the structure of its shares.
 use Prim.Native.Nat.{ℕ, _≤_, _<_}
-use mathlib.Core.List.{List}
 use lib.ListN.{getD}
 use Rattle.units.specs.Limits.{coresLimit, periodLimit, commonLimit}
 use Rattle.assignment.specs.Structure.{Structure}

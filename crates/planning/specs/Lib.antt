@@ -1,2 +1,4 @@
 pub mod Plan
 pub mod Kept
+pub mod Shape
+pub mod Tasks

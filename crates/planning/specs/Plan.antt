@@ -3,7 +3,7 @@ use Prim.Native.Nat.{ℕ, _-_, _/_}
 use mathlib.Core.Bool.{cond}
 use mathlib.Core.List.{List, [], _∷_, _++_, map}
 use lib.Dec.{eqb}
-use lib.ListN.{length, getD, replicate}
+use lib.ListN.{length, replicate}
 use Rattle.units.specs.Limits.{coresLimit, tasksLimit}
 use Rattle.units.specs.Units.{share, ticks, nums, units}
 use Rattle.lists.specs.Lists.{zeros}

@@ -1,11 +1,10 @@
 -- The equations of the whole input, as the code meets them.
 use Prim.Native.Nat.{ℕ, _+_, _-_, _/_, _≤_, _<_}
-use mathlib.Core.Path.{_≡_, refl, sym, ap, _∙_}
+use mathlib.Core.Path.{_≡_, refl}
 use mathlib.Core.List.{List}
 use native.Mathlib.Nat.{sub-zero}
-use native.Mathlib.Omega.{arith}
 use borrow.Author.Tests.{lt-ltb, le-ltb, ne-eqb}
-use lib.ListN.{length, take, length-take}
+use lib.ListN.{length, take}
 use Rattle.table_text.specs.Text.{Said, says, unreadable, textOf}
 use Rattle.dispatch.specs.declared.plan.Fresh.{Fresh}
 use Rattle.dispatch.specs.Record.{freshOf}

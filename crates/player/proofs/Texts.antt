@@ -1,7 +1,7 @@
 -- The equations of a call's answer, as the code meets them.
 use Prim.Native.Nat.{ℕ}
 use mathlib.Core.Path.{_≡_, refl}
-use mathlib.Core.List.{List, _++_}
+use mathlib.Core.List.{_++_}
 use borrow.Author.Tests.{ne-eqb}
 use lib.IntN.{ℤ}
 use Rattle.writing.specs.Ascii.{ascii}

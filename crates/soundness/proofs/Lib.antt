@@ -10,3 +10,6 @@ pub mod Put
 pub mod Added
 pub mod Counted
 pub mod TallyWide
+pub mod Lined
+pub mod SoundKept
+pub mod PlannedShape

@@ -1,14 +1,13 @@
 -- The lines of a plan, read back: its table of shares and its weights are those that it was made from.
 use Prim.Native.Nat.{ℕ, zero, suc, _+_, _*_, _-_, _/_, _≤_, _<_}
 use mathlib.Core.Path.{_≡_, refl, sym, ap, _∙_}
-use mathlib.Core.List.{List, [], _∷_, _++_, map}
+use mathlib.Core.List.{List, [], _∷_, map}
 use native.Mathlib.Omega.{arith}
 use lib.Dec.{ltb}
-use lib.ListN.{length, getD, replicate, length-map, length-append, length-replicate, getD-replicate, List·getD-map, List·getD-append, List·getD-eq-default}
+use lib.ListN.{length, getD, replicate, length-map, length-append, length-replicate, getD-replicate, List·getD-map, List·getD-append}
 use lib.Seq.{ext-getD, getD-append-add}
 use borrow.Author.Tests.{ltb-true, ltb-false}
 use Rattle.units.specs.Limits.{coresLimit, tasksLimit}
-use Rattle.units.specs.Units.{nums, units}
 use Rattle.units.proofs.Units.{nums-units}
 use Rattle.lists.specs.Lists.{zeros, total}
 use Rattle.lists.proofs.Tests.{by-cases}

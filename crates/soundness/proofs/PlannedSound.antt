@@ -1,17 +1,16 @@
 -- The plan of a table that is taken is sound.
-use Prim.Native.Nat.{ℕ, zero, suc, _+_, _*_, _/_, _≤_, _<_}
-use mathlib.Core.Path.{_≡_, refl, sym, ap, _∙_, subst, subst⁻¹}
-use mathlib.Core.Bool.{Bool, true, false, cond, not, _&&_, _||_}
+use Prim.Native.Nat.{ℕ, _/_, _≤_, _<_}
+use mathlib.Core.Path.{_≡_, refl, sym, ap, _∙_, subst⁻¹}
+use mathlib.Core.Bool.{true, not, _&&_, _||_}
 use mathlib.Core.List.{List, [], map}
 use native.Mathlib.Omega.{arith}
 use lib.Dec.{ltb, leb, eqb}
 use lib.ListN.{length, getD, take, length-map, List·getD-map}
 use lib.Seq.{ext-getD, getD-take, length-take-le}
-use borrow.Author.Tests.{ltb-true, ltb-false, lt-ltb, le-ltb, le-leb, eq-eqb, eqb-true}
+use borrow.Author.Tests.{ltb-true, ltb-false, le-leb, eq-eqb, eqb-true}
 use Rattle.units.specs.Limits.{coresLimit, tasksLimit, periodLimit, commonLimit}
-use Rattle.units.specs.Units.{nums, units}
 use Rattle.units.proofs.Units.{nums-units}
-use Rattle.lists.specs.Lists.{total, zeros}
+use Rattle.lists.specs.Lists.{total}
 use Rattle.lists.specs.Rows.{howMany, column, top}
 use Rattle.lists.specs.Below.{allBelow}
 use Rattle.lists.proofs.Tests.{by-cases, and-true, or-left, or-right}
@@ -24,17 +23,17 @@ use Rattle.admission.specs.Words.{commonOf, weightsOf, cost, period, tasks}
 use Rattle.admission.specs.Given.{Taken}
 use Rattle.admission.proofs.Exactly.{exactly-taken}
 use Rattle.admission.proofs.Padded.{padded-at}
-use Rattle.admission.proofs.TakenWeights.{weights-at, common-range}
+use Rattle.admission.proofs.TakenWeights.{weights-at}
 use Rattle.assignment.specs.Movers.{movesOn, fixedOn, lower}
 use Rattle.assignment.specs.Passes.{sharesOf, rooms}
-use Rattle.assignment.specs.Structure.{Structure, CoreKept}
+use Rattle.assignment.specs.Structure.{CoreKept}
 use Rattle.planning.specs.declared.Line.{Line}
 use Rattle.planning.specs.declared.Plan.{Plan}
-use Rattle.planning.specs.Plan.{line, emptyLine, noLine, linesOf, paddedLines, planFor, planOf, rowOf, sharesTable}
+use Rattle.planning.specs.Plan.{line, emptyLine, noLine, linesOf, paddedLines, planFor, planOf, sharesTable}
 use Rattle.planning.specs.Kept.{PlanKept}
 use Rattle.assignment.proofs.Placed.{placed-length}
 use Rattle.assignment.proofs.Properties.{kept}
-use Rattle.soundness.specs.Rules.{numbersIn, lineIn, weightIs, sharesSum, lineEmpty, commonIs, coreWithin, fewMovers, oneFirst, guarded}
+use Rattle.soundness.specs.Rules.{numbersIn, lineEmpty, commonIs, coreWithin, fewMovers, oneFirst, guarded}
 use Rattle.soundness.specs.Plan.{lineSound, lineOk, coreSound, planSound}
 use Rattle.soundness.proofs.PlannedLines.{long, task-line, empty-line}
 use Rattle.soundness.proofs.Keeps.{Fits, keeps}

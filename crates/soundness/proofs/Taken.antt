@@ -1,9 +1,9 @@
 -- Every table that is taken is planned whole.
-use Prim.Native.Nat.{ℕ, _*_, _≤_}
-use mathlib.Core.Path.{_≡_, sym, ap, _∙_, subst⁻¹}
+use Prim.Native.Nat.{ℕ}
+use mathlib.Core.Path.{_≡_, sym, _∙_, subst⁻¹}
 use mathlib.Core.List.{List}
 use native.Mathlib.Omega.{arith}
-use lib.ListN.{getD, List·getD-eq-default}
+use lib.ListN.{List·getD-eq-default}
 use lib.Dec.{eqb}
 use borrow.Author.Tests.{eq-eqb, eqb-true}
 use Rattle.lists.proofs.Tests.{by-cases}
@@ -14,7 +14,6 @@ use Rattle.admission.specs.Given.{Taken}
 use Rattle.admission.proofs.Exactly.{exactly-taken}
 use Rattle.admission.proofs.Padded.{padded-at}
 use Rattle.admission.proofs.TakenWeights.{weights-length, common-range, padded-kept}
-use Rattle.planning.specs.declared.Planned.{Planned}
 use Rattle.planning.specs.Plan.{planFor, refusedPlan, takenPlan, planOf}
 use Rattle.planning.specs.Kept.{PlanKept}
 use Rattle.soundness.proofs.Keeps.{Fits, keeps}

@@ -1,14 +1,13 @@
 -- Texts and what they say.
-use Prim.Native.Nat.{ℕ}
 use Prim.Native.String.{String}
 use mathlib.Core.Path.{_≡_, refl}
-use mathlib.Core.List.{List, [], _∷_}
+use mathlib.Core.List.{[], _∷_}
 use lib.ListN.{replicate}
 use Rattle.writing.specs.Ascii.{ascii}
 use Rattle.scanning.specs.Number.{digitOf, digitsOf, firstOf, numberAt}
 use Rattle.scanning.specs.Line.{followedBy, fieldAt, secondAfter, firstAfter, pairAt}
 use Rattle.scanning.specs.Lines.{pairEnd, unreadableFrom}
-use Rattle.table_text.specs.Text.{Said, says, unreadable, coresLine, taskLine, thenLater, numbersFrom, tableFrom, afterCores, textOf}
+use Rattle.table_text.specs.Text.{Said, says, unreadable, thenLater, numbersFrom, tableFrom, afterCores, textOf}
 
 -- what a text says
 abbrev Says : String → Said → Type 0

@@ -7,9 +7,8 @@ use native.Mathlib.Nat.{sub-zero}
 use lib.ListN.{length, set, length-set}
 use lib.Seq.{sets}
 use Rattle.table_text.specs.Text.{taskLine, numbersFrom}
-use Rattle.table_text.proofs.Tables.{task-kept}
+use Rattle.table_text.proofs.Tables.{task-kept, numbers-none, numbers-later}
 use Rattle.scanning.specs.declared.line.Pair.the-variants.{Two, NoPair}
-use Rattle.table_text.proofs.Tables.{numbers-none, numbers-later}
 
 -- two stores, and then the later numbers
 stored-two : (l : List ℕ) (i c t : ℕ) (r : List ℕ) → sets l (2 * i) (c ∷ t ∷ r) ≡ sets (set (set l (2 * i) c) (2 * i + 1) t) (2 * (i + 1)) r

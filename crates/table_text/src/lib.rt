@@ -5,7 +5,6 @@ use scanning::line::read_field;
 use scanning::line::read_pair;
 use scanning::number::Number;
 ghost use mathlib.Core.Path.{_≡_};
-ghost use Prim.Native.Nat.{_≤_};
 ghost use lib.ListN.{length, set};
 ghost use lib.Seq.{sets};
 ghost use Rattle.table_text.specs.Text.{textOf, tableFrom, badTask, numbersFrom, tableSaid, answerOf};

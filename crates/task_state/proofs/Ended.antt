@@ -16,7 +16,7 @@ use Rattle.task_state.specs.Sound.{runRule, stateSound}
 use Rattle.task_state.specs.Runs.{withoutRun}
 use Rattle.task_state.proofs.Oldest.{next-run}
 use Rattle.task_state.proofs.Facts.{facts, from-facts}
-use Rattle.task_state.proofs.Shape.{Shaped}
+use Rattle.task_state.specs.Shape.{Shaped}
 
 -- the lengths stay
 pub without-shaped : (st : State) → Shaped st → Shaped (withoutRun st)

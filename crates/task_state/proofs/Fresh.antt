@@ -7,7 +7,7 @@ use Rattle.lists.specs.Below.{allBelow}
 use Rattle.planning.specs.declared.Line.{Line}
 use Rattle.task_state.specs.State.{freshState}
 use Rattle.task_state.specs.Sound.{stateSound, stateEmpty}
-use Rattle.task_state.proofs.Shape.{Shaped}
+use Rattle.task_state.specs.Shape.{Shaped}
 
 -- sound
 pub fresh-sound : (ln : Line) → 0 < ln .weight .0 → stateSound ln freshState ≡ true

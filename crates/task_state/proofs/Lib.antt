@@ -2,7 +2,6 @@ pub mod Ruled
 pub mod Oldest
 pub mod RunFacts
 pub mod Facts
-pub mod Shape
 pub mod Passed
 pub mod Taken
 pub mod Ended

@@ -20,7 +20,7 @@ use Rattle.task_state.specs.Sound.{runRule, stateSound}
 use Rattle.task_state.specs.Runs.{turnAt, withRun}
 use Rattle.task_state.proofs.RunFacts.{from-run-facts}
 use Rattle.task_state.proofs.Facts.{facts, from-facts}
-use Rattle.task_state.proofs.Shape.{Shaped}
+use Rattle.task_state.specs.Shape.{Shaped}
 
 -- below one more is below, but for the last
 below-more : (k n : ℕ) → (k ≡ n → ⊥) → ltb k (n + 1) ≡ ltb k n

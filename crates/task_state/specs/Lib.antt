@@ -3,3 +3,4 @@ pub mod Sound
 pub mod Own
 pub mod Runs
 pub mod Key
+pub mod Shape

@@ -13,20 +13,9 @@ use Rattle.units.specs.Limits.{coresLimit}
 use Rattle.lists.specs.Lists.{total}
 use Rattle.lists.proofs.Tests.{by-cases}
 use Rattle.turn.specs.declared.Best.{Best}
-use Rattle.turn.specs.Turn.{isOpen, duePlace, betterCore, bestFrom, nobody, coreOf, Turnable}
+use Rattle.turn.specs.Turn.{isOpen, betterCore, bestFrom, nobody, coreOf, Turnable}
 use Rattle.turn.proofs.Search.{search-next, search-end}
-
--- core i, counted from 0, is open
-abbrev pub Open : (w t : ℕ) (ss ns : List ℕ) → ℕ → Type 0
-Open w t ss ns i = getD ns i 0 * w < getD ss i 0 * (t + 1)
-
--- it is not
-abbrev pub Closed : (w t : ℕ) (ss ns : List ℕ) → ℕ → Type 0
-Closed w t ss ns i = getD ss i 0 * (t + 1) ≤ getD ns i 0 * w
-
--- the due place of its next run
-abbrev pub due : (w : ℕ) (ss ns : List ℕ) → ℕ → ℕ
-due w ss ns i = duePlace w (getD ss i 0) (getD ns i 0)
+use Rattle.turn.specs.Choice.{Open, Closed, Chosen, due}
 
 -- an open core has a share
 pub open-share : (w t : ℕ) (ss ns : List ℕ) (i : ℕ) → Open w t ss ns i → 0 < getD ss i 0
@@ -35,13 +24,6 @@ open-share w t ss ns i o = factor (getD ss i 0) o
     factor : (s : ℕ) → getD ns i 0 * w < s * (t + 1) → 0 < s
     factor zero h = omega arith
     factor (suc s) h = omega arith
-
--- of k cores it is core j, counted from 0: open, none that is open has a smaller due place, and none below it the same
-pub record Chosen (w t : ℕ) (ss ns : List ℕ) (k j : ℕ) : Type 0 where
-  pub within : j < k
-  pub opened : Open w t ss ns j
-  pub least : (i : ℕ) → i < k → Open w t ss ns i → due w ss ns j ≤ due w ss ns i
-  pub lowest : (i : ℕ) → i < j → Open w t ss ns i → due w ss ns j < due w ss ns i
 
 -- what the search knows after k cores: none is open, or one is chosen
 abbrev Found : (w t : ℕ) (ss ns : List ℕ) → ℕ → ℕ → ℕ → Type 0

@@ -12,7 +12,8 @@ use Rattle.lists.proofs.Lists.{parts-none}
 use Rattle.lists.proofs.Parts.{parts-split, first-is}
 use Rattle.arith.specs.Ceiling.{ceilDiv}
 use Rattle.arith.proofs.Rounding.{ceil-least}
-use Rattle.turn.proofs.Choice.{open-share, Chosen, choice}
+use Rattle.turn.proofs.Choice.{open-share, choice}
+use Rattle.turn.specs.Choice.{Chosen}
 use Rattle.turn.proofs.Counting.{turn-core}
 use Rattle.turn.specs.Runs.{turnAfter, coreOfRun, sent}
 use Rattle.turn.proofs.Pace.{pace-behind}

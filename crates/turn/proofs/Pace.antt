@@ -15,7 +15,8 @@ use Rattle.lists.proofs.Tests.{by-cases}
 use Rattle.lists.proofs.Lists.{sum-set, zeros-at, zeros-sum}
 use Rattle.arith.proofs.Rounding.{ceil-least}
 use Rattle.turn.specs.Turn.{duePlace, more}
-use Rattle.turn.proofs.Choice.{Open, open-share, Chosen}
+use Rattle.turn.proofs.Choice.{open-share}
+use Rattle.turn.specs.Choice.{Open, Chosen}
 use Rattle.turn.proofs.Behind.{gap, behind, behind-bound, behind-part, behind-more}
 
 -- after t runs of a cycle: the counts sum to t, no core is a whole run ahead, and by any later place no more runs are due than there are places

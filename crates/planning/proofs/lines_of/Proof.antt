@@ -1,6 +1,6 @@
 use Rattle.units.proofs.Units.{nums-length}
 use Rattle.units.specs.Limits.{tasksLimit}
-use Prim.Native.Nat.{_+_, _*_}
+use Prim.Native.Nat.{_+_, _*_, _-_, _/_, _≤_}
 use borrow.Author.Needs.{needs}
 use Rattle.planning.proofs.Filling.{Filling, start, step, finish, line-at, rows-length}
 use Rattle.planning.specs.Plan.{emptyLine}
@@ -8,8 +8,7 @@ use Rattle.assignment.specs.Passes.{rowsOf}
 use Rattle.units.specs.Units.{nums}
 use lib.ListN.{length, getD}
 use native.Mathlib.Omega.{arith}
-use Prim.Native.Nat.{ℕ, _-_, _/_, _≤_}
-use mathlib.Core.Path.{_≡_, refl, sym, ap, _∙_}
+use mathlib.Core.Path.{_≡_, refl}
 use Rattle.planning.proofs.lines_of.Statement.{statement}
 use Rattle.planning.proofs.lines_of.Tie as tie
 

@@ -6,7 +6,7 @@ use Rattle.units.proofs.Units.{nums-set}
 use Rattle.units.specs.Units.{nums}
 use native.Mathlib.Omega.{arith}
 use Prim.Native.Nat.{ℕ, _-_, _≤_}
-use mathlib.Core.Path.{_≡_, refl, sym, ap, _∙_}
+use mathlib.Core.Path.{_≡_, refl, ap, _∙_}
 use Rattle.planning.proofs.rooms_of.Statement.{statement}
 use Rattle.planning.proofs.rooms_of.Tie as tie
 

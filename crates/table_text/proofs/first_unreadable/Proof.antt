@@ -1,9 +1,8 @@
 -- `reading::first_unreadable` meets its contract.
 use borrow.Author.Needs.{needs}
 use Prim.Native.Nat.{_+_, _-_}
-use mathlib.Core.Path.{sym, _∙_}
+use mathlib.Core.Path.{sym, _∙_, ap}
 use lib.ListN.{length}
-use mathlib.Core.Path.{ap}
 use native.Mathlib.Omega.{arith}
 use Rattle.scanning.specs.Lines.{pairEnd}
 use Rattle.scanning.proofs.Sought.{Sought, first, later, here, ended}

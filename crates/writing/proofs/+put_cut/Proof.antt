@@ -1,7 +1,7 @@
 -- `decimal::put_cut` meets its contract: the digits of the tenth, and the last. The number falls.
 use borrow.Author.Needs.{needs}
 use Prim.Native.Nat.{ℕ, _<_, _/_}
-use mathlib.Core.Path.{_≡_, sym}
+use mathlib.Core.Path.{sym}
 use native.Mathlib.Omega.{arith}
 use Rattle.writing.specs.Decimal.{decimalOf}
 use Rattle.writing.specs.Wrote.{Wrote}

@@ -1,6 +1,6 @@
 use Rattle.admission.specs.declared.refusals.Refusal.{Refusal}
 use Rattle.admission.proofs.Admitting.{answered, input-decides}
-use mathlib.Core.Path.{_≡_, refl, sym, ap, _∙_}
+use mathlib.Core.Path.{sym, ap, _∙_}
 use borrow.Author.Needs.{needs}
 use Rattle.admission.proofs.admit.admit.Statement.{statement}
 use Rattle.admission.proofs.admit.admit.Tie as tie

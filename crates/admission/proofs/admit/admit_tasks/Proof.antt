@@ -7,7 +7,7 @@ use Rattle.arith.specs.declared.period.Period.the-variants.{Common}
 use Rattle.admission.specs.Refusals.{refusal, taken}
 use Rattle.admission.specs.Admission.{takenWith}
 use Rattle.admission.proofs.Admitting.{answered, over, heavy, light, weighable, cores-small}
-use mathlib.Core.Path.{_≡_, refl, sym, ap, _∙_}
+use mathlib.Core.Path.{_≡_, sym, ap, _∙_}
 use native.Mathlib.Omega.{arith}
 use borrow.Author.Needs.{needs}
 use Rattle.admission.proofs.admit.admit_tasks.Statement.{statement}

@@ -1,12 +1,11 @@
 -- `listing::listed::list_plan` meets its contract.
-use Prim.Native.Nat.{_≤_}
 use mathlib.Core.Path.{_≡_, sym, _∙_}
 use native.Mathlib.Omega.{arith}
 use lib.ListN.{length, length-map}
 use Rattle.units.specs.Limits.{tasksLimit}
 use Rattle.soundness.proofs.Facts.{tasks-few}
-use Rattle.dispatch.specs.Shape.{PlanShaped}
-use Rattle.dispatch.proofs.Plans.{sound-kept}
+use Rattle.planning.specs.Shape.{PlanShaped}
+use Rattle.soundness.proofs.SoundKept.{sound-kept}
 use Rattle.listing.proofs.Wide.{wide}
 use Rattle.listing.proofs.Answers.{too-long, written}
 use Rattle.listing.proofs.Fits.{listing-length}

@@ -1,5 +1,5 @@
 -- `listing::writers::put_row` meets its contract.
-use Prim.Native.Nat.{ℕ, _≤_, _<_}
+use Prim.Native.Nat.{_≤_, _<_}
 use native.Mathlib.Omega.{arith}
 use Rattle.lists.specs.Lists.{parts}
 use Rattle.units.specs.Units.{nums}

@@ -1,5 +1,5 @@
 -- `player::played::play_look` meets its contract.
-use mathlib.Core.Path.{sym, ap, _∙_}
+use mathlib.Core.Path.{ap}
 use Rattle.writing.proofs.Wrote.{recast}
 use Rattle.dispatch.specs.declared.look.Looked.{Looked}
 use Rattle.player.proofs.Plays.{look-text}

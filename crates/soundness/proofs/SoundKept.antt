@@ -19,11 +19,11 @@ use Rattle.planning.specs.declared.Line.{Line}
 use Rattle.planning.specs.declared.Plan.{Plan}
 use Rattle.planning.specs.Plan.{noLine, rowOf, sharesTable, planWeights}
 use Rattle.planning.specs.Kept.{PlanKept}
 use Rattle.soundness.specs.Rules.{lineEmpty, coreWithin, fewMovers, oneFirst, guarded}
 use Rattle.soundness.specs.Plan.{planSound}
-use Rattle.dispatch.specs.Shape.{PlanShaped}
+use Rattle.planning.specs.Shape.{PlanShaped}
 use Rattle.soundness.proofs.Facts.{ruled, Numbers, numbers}
-use Rattle.dispatch.proofs.Facts.{lined}
+use Rattle.soundness.proofs.Lined.{lined}
 
 -- what is known of any line, of a task or empty
 record Bounded (ln : Line) : Type 0 where
