@@ -3,6 +3,8 @@
 
 pub mod assign;
 pub mod bounds;
+pub mod choice;
+mod dispatch;
 pub mod host;
 pub mod limits;
 pub mod listing;
@@ -11,7 +13,7 @@ pub mod player;
 pub mod program;
 pub mod record;
 pub mod refusal;
-pub mod sound;
+mod sound;
 pub mod task;
 pub mod text;
 pub mod turn;

@@ -1,8 +1,9 @@
 //! The call player: a table and calls in, one answer a call out.
 
+use crate::choice::Choice;
 use crate::limits::CALLS;
 use crate::program::unreadable;
-use crate::record::{Choice, Record};
+use crate::record::Record;
 use crate::text::{lines, read_digits, read_text};
 
 /// Most digits of a call's number.

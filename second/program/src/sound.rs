@@ -15,20 +15,22 @@ struct Core {
     heaviest_fixed: u64,
 }
 
-/// Tests the box, then each task in use, then the tasks together, then the unused slots.
-pub fn sound(record: &Record) -> bool {
-    if !sound_box(record) {
-        return false;
+impl Record {
+    /// Tests the box, the tasks in use, the tasks together, the unused slots; no number makes this fail.
+    pub fn sound(&self) -> bool {
+        if !sound_box(self) {
+            return false;
+        }
+        let count = self.count as usize;
+        let (tasks, unused_tasks) = self.tasks.split_at(count);
+        let (states, unused_states) = self.states.split_at(count);
+        sound_periods(self.common, tasks)
+            && tasks.iter().all(|task| sound_task(self, task))
+            && sound_cores(self.common, tasks)
+            && tasks.iter().zip(states).all(|(t, s)| sound_state(t, s))
+            && unused_tasks.iter().all(|task| *task == Task::default())
+            && unused_states.iter().all(|state| *state == State::default())
     }
-    let count = record.count as usize;
-    let (tasks, unused_tasks) = record.tasks.split_at(count);
-    let (states, unused_states) = record.states.split_at(count);
-    sound_periods(record.common, tasks)
-        && tasks.iter().all(|task| sound_task(record, task))
-        && sound_cores(record.common, tasks)
-        && tasks.iter().zip(states).all(|(t, s)| sound_state(t, s))
-        && unused_tasks.iter().all(|task| *task == Task::default())
-        && unused_states.iter().all(|state| *state == State::default())
 }
 
 /// The box's own numbers.

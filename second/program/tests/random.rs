@@ -4,9 +4,10 @@
 mod common;
 
 use common::{table, Random};
+use second::choice::Choice;
 use second::limits::CORES;
 use second::plan::{late, plan, Plan};
-use second::record::{Choice, Record};
+use second::record::Record;
 use second::task::Task;
 use second::turn;
 

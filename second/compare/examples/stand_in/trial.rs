@@ -1,7 +1,8 @@
 //! What the program `trial` should answer to a record and its questions.
 
 use crate::input::Input;
-use second::record::{Choice, Record};
+use second::choice::Choice;
+use second::record::Record;
 
 pub fn answers(input: &[u8]) -> Vec<u8> {
     let mut input = Input(input);

@@ -1,6 +1,7 @@
 //! One call on a record.
 
-use second::record::{Choice, Record};
+use second::choice::Choice;
+use second::record::Record;
 
 #[derive(Clone, Copy, PartialEq, Eq)]
 pub enum Name {

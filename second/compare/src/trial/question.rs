@@ -6,7 +6,8 @@ use super::values;
 use crate::calls::call::{Answer, Call, NAMES};
 use crate::calls::sensible::due;
 use crate::random::Random;
-use second::record::{Choice, Record};
+use second::choice::Choice;
+use second::record::Record;
 
 pub struct Question {
     spoilt: Spoilt,
