@@ -4,7 +4,7 @@
 use compare::batch::Batch;
 use compare::kinds::KINDS;
 use compare::random::Random;
-use compare::tables::{self, Table};
+use compare::tables::{self, table::Table};
 use compare::tally::Tally;
 use second::plan::{plan, Plan};
 

@@ -3,7 +3,7 @@
 use super::call::Call;
 use super::{odd, sensible};
 use crate::random::Random;
-use crate::tables::Table;
+use crate::tables::table::Table;
 use second::record::Record;
 
 /// How a sequence goes: how often calls are odd, what is called most, how fast time passes.

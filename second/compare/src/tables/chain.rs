@@ -1,7 +1,7 @@
 //! Chains of movers: one heavy task fills most of each core, the others move through what is left.
 
 use super::fit::{divisors, Room};
-use super::Table;
+use super::table::Table;
 use crate::random::Random;
 use second::limits::TASKS;
 

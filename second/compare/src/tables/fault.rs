@@ -1,6 +1,6 @@
 //! Faults put into a table: in its numbers, in its size, in the core count.
 
-use super::Table;
+use super::table::Table;
 use crate::random::Random;
 
 const CORES: [u32; 6] = [0, 17, 18, 32, 256, u32::MAX];

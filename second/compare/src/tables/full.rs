@@ -1,7 +1,7 @@
 //! Boxes that are full to the last unit, and boxes with one unit over.
 
 use super::fit::{divisors, Room};
-use super::Table;
+use super::table::Table;
 use crate::random::Random;
 
 /// Tasks of a table at most.

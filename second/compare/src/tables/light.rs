@@ -1,7 +1,7 @@
 //! Sixty-four light tasks, of equal weights or of many.
 
 use super::fit::divisors;
-use super::Table;
+use super::table::Table;
 use crate::random::Random;
 
 pub fn table(random: &mut Random) -> Table {

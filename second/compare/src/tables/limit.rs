@@ -1,7 +1,7 @@
 //! Common periods at their limit, and over it.
 
 use super::fit::{divisors, Room};
-use super::Table;
+use super::table::Table;
 use crate::random::Random;
 
 /// Common periods at the limit or close below it.

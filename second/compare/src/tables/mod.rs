@@ -8,15 +8,10 @@ mod light;
 mod limit;
 mod single;
 mod small;
+pub mod table;
 
 use crate::random::Random;
-
-/// A core count and a table, cost then period for each task.
-#[derive(Clone, Debug)]
-pub struct Table {
-    pub cores: u32,
-    pub numbers: Vec<u32>,
-}
+use table::Table;
 
 /// Tables that are taken, or just not: every fault is one of weights or common period.
 const GOOD: [fn(&mut Random) -> Table; 8] = [

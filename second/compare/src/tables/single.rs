@@ -1,6 +1,6 @@
 //! One task, or a few that have nothing in common.
 
-use super::Table;
+use super::table::Table;
 use crate::random::Random;
 
 pub fn table(random: &mut Random) -> Table {

@@ -1,7 +1,7 @@
 //! Small common periods, where ties of weights and loads are frequent.
 
 use super::fit::{divisors, Room};
-use super::Table;
+use super::table::Table;
 use crate::random::Random;
 
 pub fn table(random: &mut Random) -> Table {

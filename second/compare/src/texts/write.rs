@@ -1,6 +1,6 @@
 //! A table as the program's text.
 
-use crate::tables::Table;
+use crate::tables::table::Table;
 
 /// A line of cores, then a line for each task; an odd number is left alone in its line.
 pub fn text(table: &Table) -> Vec<u8> {
