@@ -2,10 +2,12 @@
 
 pub mod call;
 mod divider;
+pub mod due;
 mod line;
 mod long;
 mod odd;
-pub mod sensible;
+pub mod pace;
+mod sensible;
 pub mod sequence;
 
 use crate::batch::Batch;

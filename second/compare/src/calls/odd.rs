@@ -1,7 +1,7 @@
 //! Calls with numbers and times around every limit.
 
 use super::call::{Call, NAMES};
-use super::sensible::due;
+use super::due::due;
 use crate::random::Random;
 use second::limits::CLOCK;
 use second::record::Record;

@@ -1,7 +1,8 @@
 //! Calls that are accepted, or nearly: a release on time or a tick early, a finish of what has runs, a look.
 
 use super::call::{Call, Name};
-use super::sequence::Pace;
+use super::due::due;
+use super::pace::Pace;
 use crate::random::Random;
 use second::limits::RUNS;
 use second::record::{Record, State};
@@ -20,15 +21,6 @@ pub fn call(random: &mut Random, record: &Record, pace: &Pace) -> Call {
     } else {
         release(random, record, later)
     }
-}
-
-/// The earliest time of a task's next release.
-pub fn due(record: &Record, task: u64) -> u64 {
-    let state = state(record, task);
-    if state.had == 0 {
-        return 0;
-    }
-    state.last + record.tasks[task as usize - 1].period
 }
 
 fn state(record: &Record, task: u64) -> &State {

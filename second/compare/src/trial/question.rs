@@ -4,7 +4,7 @@ use super::checksum::checksum;
 use super::spoil::Spoilt;
 use super::values;
 use crate::calls::call::{Answer, Call, NAMES};
-use crate::calls::sensible::due;
+use crate::calls::due::due;
 use crate::random::Random;
 use second::choice::Choice;
 use second::record::Record;

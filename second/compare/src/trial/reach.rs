@@ -1,6 +1,7 @@
 //! A record that calls from a fresh plan reach.
 
-use crate::calls::sequence::Pace;
+use crate::calls::pace::Pace;
+use crate::calls::sequence;
 use crate::random::Random;
 use crate::tables;
 use second::limits::CLOCK;
@@ -17,7 +18,7 @@ pub fn record(random: &mut Random) -> Record {
     let calls = random.pick(&[0, 10, 100, 500, 2_000]);
     let pace = Pace::new(random, record.common);
     for _ in 0..calls {
-        let _ = pace.next(random, &record).make(&mut record);
+        let _ = sequence::next(random, &record, &pace).make(&mut record);
     }
     record
 }
