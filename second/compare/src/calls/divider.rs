@@ -1,8 +1,10 @@
-//! The line `calls` missing, repeated, written otherwise, or last.
+//! The line `calls` between table and calls, and inputs where it is wrong.
 
-use super::DIVIDER;
 use crate::random::Random;
 
+pub const DIVIDER: &[u8] = b"calls\n";
+
+/// The line missing, repeated, written otherwise, or last.
 pub fn spoil(random: &mut Random, input: &[u8]) -> Vec<u8> {
     let at = input
         .windows(DIVIDER.len())

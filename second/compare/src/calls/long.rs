@@ -1,6 +1,7 @@
 //! Inputs around the longest length, and tables over theirs.
 
-use super::{sequence, DIVIDER};
+use super::divider::DIVIDER;
+use super::sequence;
 use crate::random::Random;
 use crate::tables;
 use crate::texts::write;

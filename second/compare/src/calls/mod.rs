@@ -14,11 +14,11 @@ use crate::batch::Batch;
 use crate::random::Random;
 use crate::tables;
 use crate::texts::{self, damage, write};
+use divider::DIVIDER;
 use second::player;
 
 /// Lengths that an input is filled to, in bytes; few are long, since an emulator plays a thousand calls a second.
 const LENGTHS: [usize; 8] = [300, 500, 1_000, 1_500, 2_500, 4_000, 8_000, 20_000];
-const DIVIDER: &[u8] = b"calls\n";
 
 /// One input and its answer.
 pub fn batch(random: &mut Random) -> Batch {
