@@ -2,7 +2,7 @@
 
 use crate::batch::Batch;
 use crate::random::Random;
-use crate::{calls, host, texts, trial};
+use crate::{calls, host, spoilt_records, texts};
 
 pub struct Kind {
     pub name: &'static str,
@@ -34,9 +34,9 @@ pub const KINDS: [Kind; 4] = [
         refusals: &[1, 2, 3, 4, 5, 6, 7, 8, 9, 10, 11, 12, 13, 16],
     },
     Kind {
-        name: "trial",
+        name: "spoilt_records",
         cases: "questions of records",
-        batch: trial::batch,
+        batch: spoilt_records::batch,
         refusals: &[7, 8, 9, 10, 11, 12, 13, 15],
     },
 ];

@@ -11,7 +11,7 @@ pub mod random;
 pub mod report;
 pub mod run;
 pub mod save;
+pub mod spoilt_records;
 pub mod tables;
 pub mod tally;
 pub mod texts;
-pub mod trial;

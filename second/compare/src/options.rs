@@ -17,7 +17,8 @@ pub struct Options {
 
 impl Options {
     pub const USAGE: &str =
-        "usage: compare --plan CMD --calls CMD --trial CMD --host CMD [--seed N] [--seconds S]";
+        "usage: compare --plan CMD --calls CMD --spoilt_records CMD --host CMD \
+         [--seed N] [--seconds S]";
 
     /// Reads pairs of a name and its value.
     pub fn read(mut words: impl Iterator<Item = String>) -> Result<Self, String> {

@@ -5,7 +5,7 @@ use std::fs;
 use std::path::{Path, PathBuf};
 use std::process::{Command, Output};
 
-const KINDS: [&str; 4] = ["plan", "host", "calls", "trial"];
+const KINDS: [&str; 4] = ["plan", "host", "calls", "spoilt_records"];
 
 /// The example `stand_in`, which is built beside the program.
 fn stand_in() -> PathBuf {
@@ -100,7 +100,7 @@ fn what_is_not_asked_is_said() {
     let plan = format!("{} plan", stand_in().display());
     let words = ["--plan", &plan, "--seconds", "0"];
     let said = text(&run(&folder("not-asked"), &words));
-    for kind in ["host", "calls", "trial"] {
+    for kind in ["host", "calls", "spoilt_records"] {
         assert!(said.contains(&format!("{kind}: not asked")), "{said}");
     }
 }

@@ -92,7 +92,7 @@ impl Bench {
         calls
     }
 
-    /// The input of the laps: a kind, rounds, the table and the calls.
+    /// The input of `timed_rounds`: a kind, rounds, the table and the calls.
     pub fn input(&self, kind: char, rounds: u64, calls: &[Call]) -> String {
         let mut text = format!("{kind} {rounds}\n{}\n", self.cores);
         for task in self.table.chunks(2) {

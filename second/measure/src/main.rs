@@ -1,4 +1,4 @@
-//! `measure COMMAND..`: times the product's laps, started by a command, against the second program, in one run.
+//! `measure COMMAND..`: times the product's `timed_rounds`, started by a command, against the second program, in one run.
 #![forbid(unsafe_code)]
 
 mod boxes;
@@ -10,7 +10,7 @@ use boxes::{full, sized, Bench, Call};
 /// How often each figure is taken. All are taken in turn, so that a busy minute of the machine spoils no figure whole, and the least is shown.
 const TIMES: usize = 15;
 
-/// A figure of a box: its name, its kind, the rounds of a lap, the calls, and calls whose time is taken off.
+/// A figure of a box: its name, its kind, its rounds, the calls, and calls whose time is taken off.
 struct Figure<'a> {
     name: String,
     bench: &'a Bench,

@@ -1,4 +1,4 @@
-//! The product's laps: a program that times its own rounds.
+//! The product's rounds: its program `timed_rounds` times them itself.
 
 use crate::boxes::{Bench, Call};
 use std::io::Write;
@@ -11,17 +11,17 @@ pub fn round(command: &[String], bench: &Bench, kind: char, rounds: u64, calls: 
         .stdin(Stdio::piped())
         .stdout(Stdio::piped())
         .spawn()
-        .expect("the laps start");
+        .expect("the program starts");
     let input = bench.input(kind, rounds, calls);
     let mut pipe = child.stdin.take().expect("a pipe");
     pipe.write_all(input.as_bytes()).expect("the input fits");
     drop(pipe);
-    let said = child.wait_with_output().expect("the laps end").stdout;
+    let said = child.wait_with_output().expect("the program ends").stdout;
     let said = String::from_utf8(said).expect("numbers");
     let times: Vec<f64> = said
         .split(' ')
         .filter_map(|word| word.trim().parse().ok())
         .collect();
-    assert!(times.len() == 3, "the laps of {kind} say '{said}'");
+    assert!(times.len() == 3, "timed_rounds of {kind} says '{said}'");
     (times[1] - times[0]) * 1000.0 / rounds as f64
 }

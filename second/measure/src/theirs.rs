@@ -1,4 +1,4 @@
-//! The second program's laps.
+//! The second program's rounds.
 
 use crate::boxes::{Bench, Call};
 use second::record::Record;
@@ -30,7 +30,7 @@ fn play(record: &mut Record, calls: &[Call]) -> u64 {
     sum
 }
 
-/// Nanoseconds of one round of a kind, as the product's laps have them.
+/// Nanoseconds of one round of a kind, as the product's `timed_rounds` has them.
 pub fn round(bench: &Bench, kind: char, rounds: u64, calls: &[Call]) -> f64 {
     let table = &bench.table;
     let first = Record::fresh(bench.cores, table).expect("the table is taken");

@@ -3,7 +3,7 @@
 
 mod host;
 mod input;
-mod trial;
+mod spoilt_records;
 
 use std::io::{self, Read, Write};
 use std::process::ExitCode;
@@ -17,7 +17,7 @@ fn main() -> ExitCode {
         "plan" => second::program::program(&input),
         "calls" => second::player::calls(&input),
         "host" => host::answers(&input),
-        "trial" => trial::answers(&input),
+        "spoilt_records" => spoilt_records::answers(&input),
         _ => return ExitCode::from(2),
     };
     let fault = words.get(1).map_or("", String::as_str);

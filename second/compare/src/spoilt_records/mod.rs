@@ -1,4 +1,4 @@
-//! Records with one number spoilt at a time, for the program `trial`.
+//! Records with one number spoilt at a time, for the program `spoilt_records`.
 
 mod bend;
 mod checksum;
@@ -18,7 +18,7 @@ use question::Question;
 use second::record::Record;
 use spoil::Spoilt;
 
-/// Questions that `trial` takes.
+/// Questions that `spoilt_records` takes.
 const MOST: usize = 1_000;
 
 /// A record, then questions of it.

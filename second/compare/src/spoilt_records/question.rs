@@ -1,4 +1,4 @@
-//! A question of `trial`: a number spoilt, then a call or none.
+//! A question of `spoilt_records`: a number spoilt, then a call or none.
 
 use super::checksum::checksum;
 use super::spoil::Spoilt;

@@ -1,4 +1,4 @@
-//! What the program `trial` should answer to a record and its questions.
+//! What the program `spoilt_records` should answer to a record and its questions.
 
 use crate::input::Input;
 use second::choice::Choice;

@@ -1,9 +1,9 @@
-//! What the questions of records must meet, read off the bytes that `trial` is given.
+//! What the questions of records must meet, read off the bytes that `spoilt_records` is given.
 #![forbid(unsafe_code)]
 
 use compare::batch::Batch;
 use compare::random::Random;
-use compare::trial;
+use compare::spoilt_records;
 use std::collections::BTreeMap;
 
 /// Numbers of a record, of its box and of a task.
@@ -39,7 +39,9 @@ fn field(index: usize) -> &'static str {
 
 fn batches() -> Vec<Batch> {
     let mut random = Random::new(8);
-    (0..300).map(|_| trial::batch(&mut random)).collect()
+    (0..300)
+        .map(|_| spoilt_records::batch(&mut random))
+        .collect()
 }
 
 /// No number is asked for that the product cannot hold, none beyond the record.

@@ -1,4 +1,4 @@
-//! How many numbers a record has, in the order of `trial`'s input, which is that of `Record::numbers`.
+//! How many numbers a record has, in the order of the input of `spoilt_records`, which is that of `Record::numbers`.
 
 /// Numbers of the box, before those of the tasks.
 pub const BOX: usize = 4;

@@ -1,4 +1,4 @@
-//! The checksum that `trial` gives of a record's numbers.
+//! The checksum that `spoilt_records` gives of a record's numbers.
 
 const PRIME: u64 = 2_147_483_647;
 const FACTOR: u64 = 1_000_003;
