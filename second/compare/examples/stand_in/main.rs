@@ -1,0 +1,40 @@
+//! Stands in for the product's programs in the tests: `stand_in KIND [FAULT]` answers as the second program would.
+#![forbid(unsafe_code)]
+
+mod host;
+mod input;
+mod spoilt_records;
+
+use std::io::{self, Read, Write};
+use std::process::ExitCode;
+
+fn main() -> ExitCode {
+    let words: Vec<String> = std::env::args().skip(1).collect();
+    let mut input = Vec::new();
+    let read = io::stdin().lock().read_to_end(&mut input);
+    read.expect("the input can be read");
+    let mut answer = match words[0].as_str() {
+        "plan" => second::program::program(&input),
+        "calls" => second::player::calls(&input),
+        "host" => host::answers(&input),
+        "spoilt_records" => spoilt_records::answers(&input),
+        _ => return ExitCode::from(2),
+    };
+    let fault = words.get(1).map_or("", String::as_str);
+    spoil(&mut answer, fault);
+    let written = io::stdout().lock().write_all(&answer);
+    written.expect("the output can be written");
+    ExitCode::from(if fault == "failed" { 3 } else { 0 })
+}
+
+/// Puts the named fault into an answer.
+fn spoil(answer: &mut Vec<u8>, fault: &str) {
+    let middle = answer.len() / 2;
+    match fault {
+        "changed" if !answer.is_empty() => answer[middle] ^= 1,
+        "short" => drop(answer.pop()),
+        "long" => answer.push(b'\n'),
+        "silent" => answer.clear(),
+        _ => {}
+    }
+}

@@ -1,0 +1,42 @@
+//! The four kinds of cases.
+
+use crate::batch::Batch;
+use crate::random::Random;
+use crate::{calls, host, spoilt_records, texts};
+
+pub struct Kind {
+    pub name: &'static str,
+    /// What one case is, in the report's words.
+    pub cases: &'static str,
+    /// Makes one batch, asked of one process.
+    pub batch: fn(&mut Random) -> Batch,
+    /// The refusals that this kind can meet.
+    pub refusals: &'static [usize],
+}
+
+pub const KINDS: [Kind; 4] = [
+    Kind {
+        name: "plan",
+        cases: "texts",
+        batch: texts::batch,
+        refusals: &[1, 2, 3, 4, 5, 6, 16],
+    },
+    Kind {
+        name: "host",
+        cases: "tables with a buffer",
+        batch: host::batch,
+        refusals: &[1, 2, 3, 4, 5, 6, 14],
+    },
+    Kind {
+        name: "calls",
+        cases: "inputs of calls",
+        batch: calls::batch,
+        refusals: &[1, 2, 3, 4, 5, 6, 7, 8, 9, 10, 11, 12, 13, 16],
+    },
+    Kind {
+        name: "spoilt_records",
+        cases: "questions of records",
+        batch: spoilt_records::batch,
+        refusals: &[7, 8, 9, 10, 11, 12, 13, 15],
+    },
+];

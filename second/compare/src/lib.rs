@@ -1,0 +1,17 @@
+//! Random cases from a seed, asked of the product and of the second program, every byte compared.
+#![forbid(unsafe_code)]
+
+pub mod batch;
+pub mod calls;
+pub mod command;
+pub mod host;
+pub mod kinds;
+pub mod options;
+pub mod random;
+pub mod report;
+pub mod run;
+pub mod save;
+pub mod spoilt_records;
+pub mod tables;
+pub mod tally;
+pub mod texts;

@@ -1,0 +1,19 @@
+//! A planner and dispatcher for sporadic tasks on equal cores, written from its rules alone.
+#![forbid(unsafe_code)]
+
+pub mod assign;
+pub mod bounds;
+pub mod choice;
+mod dispatch;
+pub mod host;
+pub mod limits;
+pub mod listing;
+pub mod plan;
+pub mod player;
+pub mod program;
+pub mod record;
+pub mod refusal;
+mod sound;
+pub mod task;
+pub mod text;
+pub mod turn;
