@@ -13,9 +13,10 @@ use Rattle.arith.specs.declared.period.Period.the-variants.{Common, Over}
 use Rattle.arith.proofs.Table.{periods-at, periods-length}
 use Rattle.arith.proofs.Common.{common-each}
 use Rattle.arith.proofs.Within.{period-common}
-use Rattle.admission.specs.declared.refusals.Refusal.{Refusal}
+use Rattle.units.specs.declared.refusal.Refusal.{Refusal}
 use Rattle.admission.specs.Weight.{weights, Weighable}
-use Rattle.admission.specs.Refusals.{refusal, taken, _orElse_, inputTest, weightsTest}
+use Rattle.admission.specs.Refusals.{_orElse_, inputTest, weightsTest}
+use Rattle.units.specs.Refusals.{refusal, taken, periodNo, weightsNo}
 use Rattle.admission.specs.Admission.{periodTest, planRefusal, refusedWith, takenWith, admissionOf}
 use Rattle.admission.proofs.First.{decides, leaves}
 use Rattle.admission.proofs.Kept.{Kept, kept, neither}
@@ -42,11 +43,11 @@ passed m xs e =
 
 module _ (m : ℕ) (xs : List ℕ) (ok : inputTest m xs .no ≡ 0) where
   -- 5, naming the task
-  pub over : (k : ℕ) → periodOf (periods xs) ≡ Over k → refusal 5 k ≡ planRefusal m xs
+  pub over : (k : ℕ) → periodOf (periods xs) ≡ Over k → refusal periodNo k ≡ planRefusal m xs
   unfolding planRefusal
   over k e =
-      leaves (inputTest m xs) (inputTest m xs) (refusal 5 k) (periodTest (periodOf (periods xs)) orElse weightsTest m (common (periods xs)) (weights (common (periods xs)) xs)) refl ok
-      (decides (refusal 5 k) (periodTest (periodOf (periods xs))) (weightsTest m (common (periods xs)) (weights (common (periods xs)) xs)) (rw e) (λ z. omega arith))
+      leaves (inputTest m xs) (inputTest m xs) (refusal periodNo k) (periodTest (periodOf (periods xs)) orElse weightsTest m (common (periods xs)) (weights (common (periods xs)) xs)) refl ok
+      (decides (refusal periodNo k) (periodTest (periodOf (periods xs))) (weightsTest m (common (periods xs)) (weights (common (periods xs)) xs)) (rw e) (λ z. omega arith))
 
   module _ (l : ℕ) (e : periodOf (periods xs) ≡ Common l) where
     is : l ≡ common (periods xs)
@@ -61,7 +62,7 @@ module _ (m : ℕ) (xs : List ℕ) (ok : inputTest m xs .no ≡ 0) where
         (ap (λ (n : ℕ). weightsTest m n (weights n xs)) is)))
 
     -- 6
-    pub heavy : m * l < total (weights l xs) → refusal 6 0 ≡ planRefusal m xs
+    pub heavy : m * l < total (weights l xs) → refusal weightsNo 0 ≡ planRefusal m xs
     heavy h = sym (sum-decides ∙ (rw (lt-ltb (m * l) (total (weights l xs)) h)))
 
     -- taken

@@ -1,7 +1,7 @@
 -- The first of several tests that refuses.
 use mathlib.Core.Path.{_≡_, sym, ap, _∙_}
 use borrow.Author.Tests.{eq-eqb, ne-eqb}
-use Rattle.admission.specs.declared.refusals.Refusal.{Refusal}
+use Rattle.units.specs.declared.refusal.Refusal.{Refusal}
 use Rattle.admission.specs.Refusals.{_orElse_}
 
 -- a test x of what a tests that refuses decides

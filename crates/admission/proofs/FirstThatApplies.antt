@@ -7,9 +7,9 @@ use native.Mathlib.Omega.{arith}
 use Rattle.arith.specs.Period.{periods, First}
 use Rattle.arith.proofs.Table.{periods-length}
 use Rattle.arith.proofs.Within.{period-over, over-period, over-large, large-over}
-use Rattle.admission.specs.Refusals.{refusal}
+use Rattle.units.specs.Refusals.{refusal}
 use Rattle.admission.specs.Admission.{planRefusal}
-use Rattle.admission.specs.declared.refusals.Refusal.{Refusal}
+use Rattle.units.specs.declared.refusal.Refusal.{Refusal}
 use Rattle.admission.specs.Words.{CoresIn, CoresOut, TableOut, tasks, RangeIn, RangeOut, CostOver, PeriodIn, PeriodOut, Overfull}
 use Rattle.admission.specs.Given.{Tested, Reached, Given, none, one, two, three, four, five, six}
 use Rattle.admission.proofs.Applies.{applies}
@@ -17,7 +17,7 @@ use Rattle.admission.proofs.Gives.{gives, gives-no, periods-some}
 
 module _ (m : ℕ) (xs : List ℕ) where
   -- the row of the refusal that is given applies
-  pub says : Given m xs (planRefusal m xs .no) (planRefusal m xs .task)
+  pub says : Given m xs (planRefusal m xs .no) (planRefusal m xs .named)
   says = let a = applies m xs in rw (gives m xs (a .2)) (a .2)
 
   -- refusal n, naming task i, is given exactly if its row applies
@@ -28,7 +28,7 @@ module _ (m : ℕ) (xs : List ℕ) where
   pub only : {n n′ i i′ : ℕ} → Given m xs n i → Given m xs n′ i′ → (n ≡ n′) × (i ≡ i′)
   only {n} {n′} {i} {i′} g g′ =
       let e : refusal n i ≡ refusal n′ i′ = cc (gives m xs g, gives m xs g′) in
-      (ap (λ (r : Refusal). r .no) e, ap (λ (r : Refusal). r .task) e)
+      (ap (λ (r : Refusal). r .no) e, ap (λ (r : Refusal). r .named) e)
 
   -- 1: core count 0 or above 16
   pub exactly-1 : (planRefusal m xs .no ≡ 1) ↔ CoresOut m
@@ -98,7 +98,7 @@ module _ (m : ℕ) (xs : List ℕ) where
       of (six t p h) = omega arith
 
   -- 3, 4 and 5 name a task of the table
-  pub named : 3 ≤ planRefusal m xs .no → planRefusal m xs .no ≤ 5 → (1 ≤ planRefusal m xs .task) × (planRefusal m xs .task ≤ tasks xs)
+  pub named : 3 ≤ planRefusal m xs .no → planRefusal m xs .no ≤ 5 → (1 ≤ planRefusal m xs .named) × (planRefusal m xs .named ≤ tasks xs)
   named = of says
     where
       of : {n i : ℕ} → Given m xs n i → 3 ≤ n → n ≤ 5 → (1 ≤ i) × (i ≤ tasks xs)
@@ -111,7 +111,7 @@ module _ (m : ℕ) (xs : List ℕ) where
       of (six t p h) a b = absurd (omega arith)
 
   -- the others name task 0
-  pub unnamed : (planRefusal m xs .no < 3) ⊎ (5 < planRefusal m xs .no) → planRefusal m xs .task ≡ 0
+  pub unnamed : (planRefusal m xs .no < 3) ⊎ (5 < planRefusal m xs .no) → planRefusal m xs .named ≡ 0
   unnamed = of says
     where
       of : {n i : ℕ} → Given m xs n i → (n < 3) ⊎ (5 < n) → i ≡ 0

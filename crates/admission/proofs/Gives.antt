@@ -10,11 +10,12 @@ use Rattle.arith.specs.declared.period.Period.the-variants.{Common}
 use Rattle.arith.proofs.Common.{Each}
 use Rattle.arith.proofs.Table.{periods-at, periods-length}
 use Rattle.arith.proofs.Within.{over-period, common-period}
-use Rattle.admission.specs.Refusals.{refusal, taken, _orElse_, coresTest, tableTest, tasksTest, inputTest}
+use Rattle.admission.specs.Refusals.{_orElse_, coresTest, tableTest, tasksTest, inputTest}
+use Rattle.units.specs.Refusals.{refusal, taken, coresNo, tableNo, rangeNo, costNo}
 use Rattle.admission.specs.Admission.{planRefusal}
 use Rattle.admission.proofs.First.{decides, leaves}
 use Rattle.admission.proofs.Admitting.{input-decides, over, heavy, sum-decides}
-use Rattle.admission.specs.declared.refusals.Refusal.{Refusal}
+use Rattle.units.specs.declared.refusal.Refusal.{Refusal}
 use Rattle.admission.specs.Words.{CoresIn, CoresOut, TableIn, TableOut, commonOf, weightsOf, RangesIn, PeriodIn}
 use Rattle.admission.specs.Given.{Taken, Tested, Reached, Given, none, one, two, three, four, five, six}
 use Rattle.admission.proofs.InWords.{cores-in, cores-out, table-in, table-out, task-three, task-four, tasks-in, tasks-out}
@@ -32,16 +33,16 @@ module _ (m : ℕ) (xs : List ℕ) where
       (leaves taken (tableTest xs) f (tasksTest 1 xs) (sym (table-in xs t)) refl (sym e))
 
   -- test 1
-  input-one : CoresOut m → refusal 1 0 ≡ inputTest m xs
+  input-one : CoresOut m → refusal coresNo 0 ≡ inputTest m xs
   unfolding inputTest
-  input-one o = decides (refusal 1 0) (coresTest m) (tableTest xs orElse tasksTest 1 xs) (sym (cores-out m o)) (λ z. omega arith)
+  input-one o = decides (refusal coresNo 0) (coresTest m) (tableTest xs orElse tasksTest 1 xs) (sym (cores-out m o)) (λ z. omega arith)
 
   -- test 2
-  input-two : CoresIn m → TableOut xs → refusal 2 0 ≡ inputTest m xs
+  input-two : CoresIn m → TableOut xs → refusal tableNo 0 ≡ inputTest m xs
   unfolding inputTest
   input-two c o =
-      leaves taken (coresTest m) (refusal 2 0) (tableTest xs orElse tasksTest 1 xs) (sym (cores-in m c)) refl
-      (decides (refusal 2 0) (tableTest xs) (tasksTest 1 xs) (sym (table-out xs o)) (λ z. omega arith))
+      leaves taken (coresTest m) (refusal tableNo 0) (tableTest xs orElse tasksTest 1 xs) (sym (cores-in m c)) refl
+      (decides (refusal tableNo 0) (tableTest xs) (tasksTest 1 xs) (sym (table-out xs o)) (λ z. omega arith))
 
   -- a task that tests 1 and 2 reach
   input-task : (k : ℕ) → Reached m xs k → (f : Refusal) → tasksTest 1 xs ≡ f → (f .no ≡ 0 → ⊥) → planRefusal m xs ≡ f
@@ -64,12 +65,12 @@ module _ (m : ℕ) (xs : List ℕ) where
   gives (none t) =
       sum-decides m xs (passed (tested t)) (commonOf xs) (within (tested t) (t .within))
       ∙ rw (le-ltb (m * commonOf xs) (total (weightsOf xs)) (t .fit))
-  gives (one o) = sym (input-decides m xs (refusal 1 0) (input-one o) (λ z. omega arith))
-  gives (two c o) = sym (input-decides m xs (refusal 2 0) (input-two c o) (λ z. omega arith))
+  gives (one o) = sym (input-decides m xs (refusal coresNo 0) (input-one o) (λ z. omega arith))
+  gives (two c o) = sym (input-decides m xs (refusal tableNo 0) (input-two c o) (λ z. omega arith))
   gives (three {k} r o) =
-      input-task k r (refusal 3 (suc k)) (tasks-out xs k (r .there) (r .before) (refusal 3 (suc k)) (task-three xs (suc k) k o) (λ z. omega arith)) (λ z. omega arith)
+      input-task k r (refusal rangeNo (suc k)) (tasks-out xs k (r .there) (r .before) (refusal rangeNo (suc k)) (task-three xs (suc k) k o) (λ z. omega arith)) (λ z. omega arith)
   gives (four {k} r i c) =
-      input-task k r (refusal 4 (suc k)) (tasks-out xs k (r .there) (r .before) (refusal 4 (suc k)) (task-four xs (suc k) k i c) (λ z. omega arith)) (λ z. omega arith)
+      input-task k r (refusal costNo (suc k)) (tasks-out xs k (r .there) (r .before) (refusal costNo (suc k)) (task-four xs (suc k) k i c) (λ z. omega arith)) (λ z. omega arith)
   gives (five {i} t f) = sym (over m xs (passed t) i (over-period (periods xs) i f))
   gives (six t p h) = sym (heavy m xs (passed t) (commonOf xs) (within t p) h)
 

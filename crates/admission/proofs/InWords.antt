@@ -11,9 +11,10 @@ use lib.ListN.{length, drop}
 use borrow.Author.Tests.{eq-eqb, ne-eqb, lt-ltb, le-ltb}
 use Rattle.units.specs.Limits.{coresLimit, tasksLimit, periodLimit}
 use Rattle.lists.proofs.Tests.{or-left, or-right, or-false}
-use Rattle.admission.specs.Refusals.{refusal, taken, coresTest, tableTest, taskTest, tasksTest}
+use Rattle.admission.specs.Refusals.{coresTest, tableTest, taskTest, tasksTest}
+use Rattle.units.specs.Refusals.{refusal, taken, coresNo, tableNo, rangeNo, costNo}
 use Rattle.admission.proofs.Tasks.{tasks-stop, tasks-go, tasks-end}
-use Rattle.admission.specs.declared.refusals.Refusal.{Refusal}
+use Rattle.units.specs.declared.refusal.Refusal.{Refusal}
 use Rattle.admission.specs.Words.{CoresIn, CoresOut, TableIn, TableOut, tasks, cost, period, RangeIn, RangeOut, CostOver, Fine, RangesIn, NoneOver}
 
 -- none of three tests holds
@@ -31,7 +32,7 @@ pub cores-in : (m : ℕ) → CoresIn m → coresTest m ≡ taken
 cores-in m h = rw (or-false (eqb m 0) (ltb coresLimit m) (ne-eqb m 0 (λ e. omega arith)) (le-ltb coresLimit m (h .1)))
 
 -- another is refused by 1
-pub cores-out : (m : ℕ) → CoresOut m → coresTest m ≡ refusal 1 0
+pub cores-out : (m : ℕ) → CoresOut m → coresTest m ≡ refusal coresNo 0
 cores-out m (inl e) = rw (or-left (eqb m 0) (ltb coresLimit m) (eq-eqb m 0 e))
 cores-out m (inr h) = rw (or-right (eqb m 0) (ltb coresLimit m) (lt-ltb coresLimit m h))
 
@@ -45,7 +46,7 @@ table-in xs h =
     (ne-eqb (n % 2) 1 (λ e. omega arith)))
 
 -- another is refused by 2
-pub table-out : (xs : List ℕ) → TableOut xs → tableTest xs ≡ refusal 2 0
+pub table-out : (xs : List ℕ) → TableOut xs → tableTest xs ≡ refusal tableNo 0
 table-out xs o =
     let n : ℕ = length xs in
     rw (one-in (eqb n 0) (ltb (2 * tasksLimit) n) (eqb (n % 2) 1) (eq-eqb n 0) (lt-ltb (2 * tasksLimit) n) (eq-eqb (n % 2) 1) o)
@@ -64,13 +65,13 @@ module _ (xs : List ℕ) where
   task-in i k f = rw (range-in k (f .0), le-ltb (period xs k) (cost xs k) (f .1))
 
   -- out of range it is refused by 3
-  pub task-three : (i k : ℕ) → RangeOut xs k → taskTest i (cost xs k) (period xs k) ≡ refusal 3 i
+  pub task-three : (i k : ℕ) → RangeOut xs k → taskTest i (cost xs k) (period xs k) ≡ refusal rangeNo i
   task-three i k o =
       rw (one-in (eqb (cost xs k) 0) (eqb (period xs k) 0) (ltb periodLimit (period xs k))
       (eq-eqb (cost xs k) 0) (eq-eqb (period xs k) 0) (lt-ltb periodLimit (period xs k)) o)
 
   -- in range, with too great a cost, by 4
-  pub task-four : (i k : ℕ) → RangeIn xs k → CostOver xs k → taskTest i (cost xs k) (period xs k) ≡ refusal 4 i
+  pub task-four : (i k : ℕ) → RangeIn xs k → CostOver xs k → taskTest i (cost xs k) (period xs k) ≡ refusal costNo i
   task-four i k r c = rw (range-in k r, lt-ltb (period xs k) (cost xs k) c)
 
   -- tasks that pass leave it to those after them

@@ -10,8 +10,9 @@ use lib.ListN.{length, getD}
 use borrow.Author.Tests.{eqb-true, eqb-false, ltb-false}
 use Rattle.units.specs.Limits.{coresLimit, tasksLimit, periodLimit}
 use Rattle.lists.proofs.Tests.{by-cases, or-false-left, or-false-right}
-use Rattle.admission.specs.declared.refusals.Refusal.{Refusal}
-use Rattle.admission.specs.Refusals.{refusal, taken, _orElse_, coresTest, tableTest, taskTest, tasksTest, inputTest}
+use Rattle.units.specs.declared.refusal.Refusal.{Refusal}
+use Rattle.admission.specs.Refusals.{_orElse_, coresTest, tableTest, taskTest, tasksTest, inputTest}
+use Rattle.units.specs.Refusals.{refusal, taken, costNo}
 
 -- neither of two tests refuses
 pub neither : (a b : Refusal) → (a orElse b) .no ≡ 0 → (a .no ≡ 0) × (b .no ≡ 0)
@@ -36,7 +37,7 @@ fine i c t e =
     let x = eqb c 0 in
     let y = eqb t 0 in
     let z = ltb periodLimit t in
-    let three = failed (x || y || z) 2 i (cond (ltb t c) (refusal 4 i) taken) e in
+    let three = failed (x || y || z) 2 i (cond (ltb t c) (refusal costNo i) taken) e in
     let four = failed (ltb t c) 3 i taken (three .1) in
     record {
       cost = pos-of-ne-zero (eqb-false c 0 (or-false-left x y (or-false-left (x || y) z (three .0))));

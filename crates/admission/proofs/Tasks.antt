@@ -6,8 +6,9 @@ use native.Mathlib.Omega.{arith}
 use native.Mathlib.Numerals.{add-one}
 use lib.ListN.{length, getD, drop}
 use Rattle.lists.proofs.Pairs.{pair-drop, pair-end}
-use Rattle.admission.specs.declared.refusals.Refusal.{Refusal}
-use Rattle.admission.specs.Refusals.{taken, _orElse_, taskTest, tasksTest}
+use Rattle.units.specs.declared.refusal.Refusal.{Refusal}
+use Rattle.admission.specs.Refusals.{_orElse_, taskTest, tasksTest}
+use Rattle.units.specs.Refusals.{taken}
 use Rattle.admission.proofs.First.{decides, leaves}
 
 -- task k + 1 of the table, and the tasks after it

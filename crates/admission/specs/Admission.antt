@@ -10,14 +10,15 @@ use Rattle.arith.specs.Period.{periods, common, periodOf}
 use Rattle.arith.specs.declared.period.Period.{Period}
 use Rattle.arith.specs.declared.period.Period.the-variants.{Common, Over}
 use Rattle.admission.specs.Weight.{weights, padded}
-use Rattle.admission.specs.Refusals.{refusal, taken, _orElse_, inputTest, weightsTest}
-use Rattle.admission.specs.declared.refusals.Refusal.{Refusal}
+use Rattle.admission.specs.Refusals.{_orElse_, inputTest, weightsTest}
+use Rattle.units.specs.Refusals.{refusal, taken, periodNo}
+use Rattle.units.specs.declared.refusal.Refusal.{Refusal}
 use Rattle.admission.specs.declared.admit.Admission.{Admission}
 
 -- 5: the common period exceeds its limit, naming the first task that takes it over
 abbrev pub periodTest : Period → Refusal
 periodTest (Common l) = taken
-periodTest (Over k) = refusal 5 k
+periodTest (Over k) = refusal periodNo k
 
 -- the first refusal that applies: 1, 2, then tasks in table order (3 before 4 in each), then 5, then 6
 unfoldable pub planRefusal : ℕ → List ℕ → Refusal

@@ -6,15 +6,8 @@ use lib.Dec.{ltb, eqb}
 use lib.ListN.{length}
 use Rattle.units.specs.Limits.{coresLimit, tasksLimit, periodLimit}
 use Rattle.lists.specs.Lists.{total}
-use Rattle.admission.specs.declared.refusals.Refusal.{Refusal}
-
--- a refusal's number and the task that it names
-abbrev pub refusal : ℕ → ℕ → Refusal
-refusal n i = record { no = n; task = i }
-
--- no refusal
-abbrev pub taken : Refusal
-taken = refusal 0 0
+use Rattle.units.specs.declared.refusal.Refusal.{Refusal}
+use Rattle.units.specs.Refusals.{refusal, coresNo, tableNo, rangeNo, taken, weightsNo, costNo}
 
 -- the first of two tests that refuses
 infixr 20 _orElse_
@@ -23,17 +16,17 @@ a orElse b = cond (eqb (a .no) 0) b a
 
 -- 1: core count 0 or above 16
 abbrev pub coresTest : ℕ → Refusal
-coresTest m = cond (eqb m 0 || ltb coresLimit m) (refusal 1 0) taken
+coresTest m = cond (eqb m 0 || ltb coresLimit m) (refusal coresNo 0) taken
 
 -- 2: table empty, over 64 tasks, or ending inside a task
 abbrev pub tableTest : List ℕ → Refusal
-tableTest xs = cond (eqb (length xs) 0 || ltb (2 * tasksLimit) (length xs) || eqb (length xs % 2) 1) (refusal 2 0) taken
+tableTest xs = cond (eqb (length xs) 0 || ltb (2 * tasksLimit) (length xs) || eqb (length xs % 2) 1) (refusal tableNo 0) taken
 
 -- 3: a task has cost 0, period 0 or period above its limit; 4: its cost exceeds its period
 abbrev pub taskTest : ℕ → ℕ → ℕ → Refusal
 taskTest i c t =
-    cond (eqb c 0 || eqb t 0 || ltb periodLimit t) (refusal 3 i)
-    (cond (ltb t c) (refusal 4 i) taken)
+    cond (eqb c 0 || eqb t 0 || ltb periodLimit t) (refusal rangeNo i)
+    (cond (ltb t c) (refusal costNo i) taken)
 
 -- 3 and 4 for the tasks of a table in order, numbered from i
 abbrev pub tasksTest : ℕ → List ℕ → Refusal
@@ -47,4 +40,4 @@ inputTest m xs = coresTest m orElse tableTest xs orElse tasksTest 1 xs
 
 -- 6: the weights sum to more than M × L
 abbrev pub weightsTest : ℕ → ℕ → List ℕ → Refusal
-weightsTest m l ws = cond (ltb (m * l) (total ws)) (refusal 6 0) taken
+weightsTest m l ws = cond (ltb (m * l) (total ws)) (refusal weightsNo 0) taken

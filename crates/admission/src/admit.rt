@@ -1,10 +1,10 @@
 // Whether a table is taken.
-use crate::refusals::Refusal;
 use crate::refusals::input_test;
 use crate::weights::weigh;
 use arith::period::Period;
 use arith::period::common_period;
 use units::limits::TASKS;
+use units::refusal::Refusal;
 use units::share::Share;
 ghost use mathlib.Core.Path.{_≡_};
 ghost use Rattle.admission.specs.Refusals.{inputTest};
@@ -33,11 +33,17 @@ fn admit_tasks(cores: u32, table: &[u32]) -> Admission
     ensures { λ r. ⌜ r ≡ admissionOf cores (now (table .entry)) ⌝ }
 {
     match common_period(table) {
-        Period::Over(k) => refused(Refusal { no: 5, task: k }),
+        Period::Over(k) => refused(Refusal {
+            no: Refusal::PERIOD,
+            named: k,
+        }),
         Period::Common(l) => {
             let weighed = weigh(table, l);
             if cores * l < weighed.sum.0 {
-                return refused(Refusal { no: 6, task: 0 });
+                return refused(Refusal {
+                    no: Refusal::WEIGHTS,
+                    named: 0,
+                });
             }
             let weights = weighed.weights;
             Admission {

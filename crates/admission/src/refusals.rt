@@ -2,25 +2,19 @@
 use units::limits::CORES;
 use units::limits::PERIOD;
 use units::limits::TASKS;
+use units::refusal::Refusal;
 ghost use mathlib.Core.Path.{_≡_};
 ghost use Rattle.admission.specs.Refusals.{coresTest, tableTest, taskTest, tasksTest, inputTest};
-
-// A refusal's number and the task that it names, 0 and 0 for none.
-pub struct Refusal {
-    pub no: u32,
-    pub task: usize,
-}
-
-impl Refusal {
-    pub const NONE: Refusal = Refusal { no: 0, task: 0 };
-}
 
 // Refusal 1.
 fn cores_test(cores: u32) -> Refusal
     ensures { λ r. ⌜ r ≡ coresTest cores ⌝ }
 {
     if (cores == 0) | ((CORES as u32) < cores) {
-        return Refusal { no: 1, task: 0 };
+        return Refusal {
+            no: Refusal::CORES,
+            named: 0,
+        };
     }
     Refusal::NONE
 }
@@ -31,7 +25,10 @@ fn table_test(table: &[u32]) -> Refusal
 {
     let n = table.len();
     if (n == 0) | (2 * TASKS < n) | (n % 2 == 1) {
-        return Refusal { no: 2, task: 0 };
+        return Refusal {
+            no: Refusal::TABLE,
+            named: 0,
+        };
     }
     Refusal::NONE
 }
@@ -41,10 +38,16 @@ fn task_test(i: usize, cost: u32, period: u32) -> Refusal
     ensures { λ r. ⌜ r ≡ taskTest i cost period ⌝ }
 {
     if (cost == 0) | (period == 0) | (PERIOD < period) {
-        return Refusal { no: 3, task: i };
+        return Refusal {
+            no: Refusal::RANGE,
+            named: i,
+        };
     }
     if period < cost {
-        return Refusal { no: 4, task: i };
+        return Refusal {
+            no: Refusal::COST,
+            named: i,
+        };
     }
     Refusal::NONE
 }

@@ -10,7 +10,7 @@ use lib.ListN.{getD}
 use lib.Signed.{leZ}
 use borrow.Author.Tests.{eqb-true}
 use Rattle.lists.proofs.Tests.{by-cases}
-use Rattle.admission.specs.Refusals.{refusal}
+use Rattle.units.specs.Refusals.{refusal}
 use Rattle.admission.specs.Admission.{planRefusal}
 use Rattle.admission.specs.Words.{CoresIn, TableIn, RangesIn, NoneOver, PeriodIn, AllFit, tasks, cost, period, commonOf, weightOf}
 use Rattle.admission.specs.Given.{Given, none}

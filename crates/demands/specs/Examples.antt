@@ -33,12 +33,12 @@ same f (x ∷ xs) (y ∷ ys) = f x y && same f xs ys
 -- the definitions give the answer
 unfoldable pub holds : Example → Bool
 holds (plans m xs l rows lates) =
-    eqb (planOf m xs .refusal .no) 0 && eqb (planOf m xs .refusal .task) 0
+    eqb (planOf m xs .refusal .no) 0 && eqb (planOf m xs .refusal .named) 0
     && eqb (planOf m xs .plan .common) l
     && same (same eqb) (map (take m) (take (length rows) (sharesTable (planOf m xs .plan)))) rows
     && same sameℤ (take (length lates) (latesOf (planOf m xs .plan))) lates
 holds (takes m xs l) = eqb (planOf m xs .refusal .no) 0 && eqb (planOf m xs .plan .common) l
-holds (refuses m xs n i) = eqb (planOf m xs .refusal .no) n && eqb (planOf m xs .refusal .task) i
+holds (refuses m xs n i) = eqb (planOf m xs .refusal .no) n && eqb (planOf m xs .refusal .named) i
 holds (turns ss ks) = same eqb (turnsFrom (length ks) (total ss) (ss ++ zeros (coresLimit - length ss)) fresh) ks
 
 -- all of them do

@@ -4,7 +4,7 @@ use mathlib.Core.Path.{_≡_}
 use native.Mathlib.Omega.{arith}
 use Rattle.units.specs.Limits.{tasksLimit, periodLimit, clockLimit}
 use Rattle.soundness.proofs.Facts.{period-small, weight-small, shares-sum}
-use Rattle.task_state.specs.Own.{releaseOwn}
+use Rattle.task_state.specs.Tests.{releaseTests}
 use Rattle.task_state.specs.Key.{deadlineOf}
 use Rattle.task_state.specs.Runs.{Releasable}
 use Rattle.task_state.proofs.Facts.{Facts, facts}
@@ -34,7 +34,7 @@ module _ (r : Record) (i t : ℕ) (p : Passed r (r .plan .count) i t) where
   state = facts (lineAt r (i - 1)) (stateAt r (i - 1)) (state-sound r kept (i - 1) here)
 
   -- a release that its own tests let pass
-  pub can-release : releaseOwn (lineAt r (i - 1)) (stateAt r (i - 1)) t ≡ 0 → Releasable (lineAt r (i - 1)) (stateAt r (i - 1)) t
+  pub can-release : releaseTests (lineAt r (i - 1)) (stateAt r (i - 1)) t ≡ 0 → Releasable (lineAt r (i - 1)) (stateAt r (i - 1)) t
   can-release e =
       releasable (lineAt r (i - 1)) (stateAt r (i - 1)) t e state
       (weight-small (r .plan) (kept .plan) (i - 1) here) (shares-sum (r .plan) (kept .plan) (i - 1) here) (p .limit) period

@@ -15,7 +15,7 @@ use Rattle.planning.specs.Plan.{noLine, rowOf, sharesTable}
 use Rattle.dispatch.specs.declared.Record.{Record}
 use Rattle.dispatch.specs.declared.look.Choice.the-variants.{Idle}
 use Rattle.dispatch.specs.Record.{lineAt, stateAt}
-use Rattle.dispatch.specs.Refusals.{lookNo}
+use Rattle.dispatch.specs.Refusals.{lookRefusal}
 use Rattle.dispatch.specs.Look.{bestOf, choiceFor, choiceOf, lookOf}
 use Rattle.dispatch.specs.Shape.{Good}
 use Rattle.dispatch.specs.Choice.{deadlineAt, keyAt, UpperOn, LowerOn, FixedOn, Least, None, First, Answer, Chosen, as-upper, as-lower, as-fixed}
@@ -103,7 +103,7 @@ module _ (r : Record) (g : Good r) (k : ℕ) where
   choice-first = chosen-by (bestOf r k tasksLimit .task) (bestOf r k tasksLimit .key) (found r k tasksLimit)
 
   -- and so is an accepted look's
-  pub look-first : (t : ℕ) → lookNo r k t ≡ 0 → Chosen r k (lookOf r k t .choice)
+  pub look-first : (t : ℕ) → lookRefusal r k t ≡ 0 → Chosen r k (lookOf r k t .choice)
   look-first t e = rw (look-choice r k t e) choice-first
 
   -- a task's row in the table

@@ -23,7 +23,7 @@ use Rattle.task_state.specs.State.{freshState}
 use Rattle.task_state.specs.Runs.{withRun, withoutRun}
 use Rattle.dispatch.specs.Record.{recordOf}
 use Rattle.dispatch.specs.Sound.{soundOf}
-use Rattle.dispatch.specs.Refusals.{taskNo, lookNo, releaseNo, finishNo}
+use Rattle.dispatch.specs.Refusals.{taskTests, lookRefusal, releaseRefusal, finishRefusal}
 use Rattle.dispatch.specs.Release.{takeRelease, refuseRelease, releaseOf}
 use Rattle.dispatch.specs.Finish.{takeFinish, refuseFinish, finishOf}
 use Rattle.dispatch.specs.Look.{lookOf}
@@ -38,7 +38,7 @@ plan = planOf 4 (5 ∷ 6 ∷ 4 ∷ 6 ∷ 2 ∷ 3 ∷ 2 ∷ 3 ∷ 2 ∷ 3 ∷ 1 �
 
 -- the definitions that it and the calls compute by
 defs : ℕ
-unfolding plan planOf takenPlan refusedPlan planFor emptyPlan emptyLine planRefusal inputTest common periodOf lcm gcd euclid sharesOf emptyRows order inOrder planSound recordOf freshState soundOf allBelow taskNo lookNo releaseNo finishNo releaseOf takeRelease refuseRelease finishOf takeFinish refuseFinish lookOf withRun withoutRun turnOf coreOf bestFrom counted
+unfolding plan planOf takenPlan refusedPlan planFor emptyPlan emptyLine planRefusal inputTest common periodOf lcm gcd euclid sharesOf emptyRows order inOrder planSound recordOf freshState soundOf allBelow taskTests lookRefusal releaseRefusal finishRefusal releaseOf takeRelease refuseRelease finishOf takeFinish refuseFinish lookOf withRun withoutRun turnOf coreOf bestFrom counted
 defs = 0
 
 -- it is sound

@@ -10,7 +10,7 @@ use Rattle.task_state.proofs.Taken.{with-shaped, with-sound}
 use Rattle.task_state.proofs.Ended.{without-shaped, without-sound}
 use Rattle.dispatch.specs.declared.Record.{Record}
 use Rattle.dispatch.specs.Record.{lineAt, stateAt}
-use Rattle.dispatch.specs.Refusals.{lookNo, releaseNo, finishNo}
+use Rattle.dispatch.specs.Refusals.{lookRefusal, releaseRefusal, finishRefusal}
 use Rattle.dispatch.specs.Release.{releaseOf}
 use Rattle.dispatch.specs.Finish.{finishOf}
 use Rattle.dispatch.specs.Look.{lookOf}
@@ -22,9 +22,9 @@ use Rattle.dispatch.proofs.Answers.{release-refused, finish-refused, lo
 module _ (r : Record) (i t : ℕ) (g : Good r) where
   -- a release
   pub release-good : Good (releaseOf r i t .next)
-  release-good = go (ℕ-discrete (releaseNo r i t) 0)
+  release-good = go (ℕ-discrete (releaseRefusal r i t) 0)
     where
-      go : Dec (releaseNo r i t ≡ 0) → Good (releaseOf r i t .next)
+      go : Dec (releaseRefusal r i t ≡ 0) → Good (releaseOf r i t .next)
       go (no n) = subst Good (sym (release-refused r i t n)) g
       go (yes e) =
           let p = release-passed r i t e in
@@ -44,9 +44,9 @@ module _ (r : Record) (i t : ℕ) (g : Good r) where
 
   -- a finish
   pub finish-good : Good (finishOf r i t .next)
-  finish-good = go (ℕ-discrete (finishNo r i t) 0)
+  finish-good = go (ℕ-discrete (finishRefusal r i t) 0)
     where
-      go : Dec (finishNo r i t ≡ 0) → Good (finishOf r i t .next)
+      go : Dec (finishRefusal r i t ≡ 0) → Good (finishOf r i t .next)
       go (no n) = subst Good (sym (finish-refused r i t n)) g
       go (yes e) =
           let p = finish-passed r i t e in
@@ -60,8 +60,8 @@ module _ (r : Record) (i t : ℕ) (g : Good r) where
 
   -- a look at core i
   pub look-good : Good (lookOf r i t .next)
-  look-good = go (ℕ-discrete (lookNo r i t) 0)
+  look-good = go (ℕ-discrete (lookRefusal r i t) 0)
     where
-      go : Dec (lookNo r i t ≡ 0) → Good (lookOf r i t .next)
+      go : Dec (lookRefusal r i t ≡ 0) → Good (lookOf r i t .next)
       go (no n) = subst Good (sym (look-refused r i t n)) g
       go (yes e) = subst Good (sym (look-taken r i t e)) (timed-good r g t (look-passed r i t e .limit))

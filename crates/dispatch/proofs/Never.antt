@@ -6,10 +6,10 @@ use mathlib.Core.List.{List}
 use native.Mathlib.Omega.{arith}
 use lib.Dec.{ltb, eqb}
 use Rattle.units.specs.Limits.{clockLimit, runsLimit}
-use Rattle.task_state.specs.Own.{early, releaseOwn, finishOwn}
+use Rattle.task_state.specs.Tests.{early, releaseTests, finishTests}
 use Rattle.dispatch.specs.declared.Record.{Record}
 use Rattle.dispatch.specs.Record.{lineAt, stateAt}
-use Rattle.dispatch.specs.Refusals.{outside, timeNo, taskNo, lookNo, releaseNo, finishNo}
+use Rattle.dispatch.specs.Refusals.{outside, timeTests, taskTests, lookRefusal, releaseRefusal, finishRefusal}
 use Rattle.dispatch.specs.Shape.{Good}
 use Rattle.dispatch.specs.Calls.{Call, release, finish, look, callRefusal, after}
 use Rattle.dispatch.proofs.Answers.{release-answer, finish-answer, look-answer}
@@ -22,30 +22,30 @@ neither false m n h k e = k e
 
 module _ (r : Record) (g : Good r) where
   -- not where the number and the time are tested
-  number-15 : (n m i t : ℕ) → (m ≡ 15 → ⊥) → cond (outside n i) m (timeNo (r .clock .0) t) ≡ 15 → ⊥
+  number-15 : (n m i t : ℕ) → (m ≡ 15 → ⊥) → cond (outside n i) m (timeTests (r .clock .0) t) ≡ 15 → ⊥
   number-15 n m i t h =
-      neither (outside n i) m (timeNo (r .clock .0) t) h
+      neither (outside n i) m (timeTests (r .clock .0) t) h
       (neither (ltb clockLimit t) 12 (cond (ltb t (r .clock .0)) 8 0) (λ e. omega arith)
       (neither (ltb t (r .clock .0)) 8 0 (λ e. omega arith) (λ e. omega arith)))
 
   -- so not where every call for a task begins
-  task-15 : (i t : ℕ) → taskNo r i t ≡ 15 → ⊥
-  unfolding taskNo
+  task-15 : (i t : ℕ) → taskTests r i t ≡ 15 → ⊥
+  unfolding taskTests
   task-15 i t = rw (g .sound) (number-15 (r .plan .count) 7 i t (λ e. omega arith))
 
   -- none is given for a good record
   good-15 : (c : Call) → callRefusal r c ≡ 15 → ⊥
-  unfolding releaseNo finishNo lookNo
+  unfolding releaseRefusal finishRefusal lookRefusal
   good-15 (release i t) e =
       let st = stateAt r (i - 1) in
       let full : ℕ = cond (eqb (st .live) runsLimit) 10 0 in
-      neither (eqb (taskNo r i t) 0) (releaseOwn (lineAt r (i - 1)) st t) (taskNo r i t)
+      neither (eqb (taskTests r i t) 0) (releaseTests (lineAt r (i - 1)) st t) (taskTests r i t)
       (neither (early (lineAt r (i - 1)) st t) 9 full (λ e. omega arith) (neither (eqb (st .live) runsLimit) 10 0 (λ e. omega arith) (λ e. omega arith)))
       (task-15 i t)
       (sym (release-answer r i t) ∙ e)
   good-15 (finish i t) e =
       let st = stateAt r (i - 1) in
-      neither (eqb (taskNo r i t) 0) (finishOwn st) (taskNo r i t)
+      neither (eqb (taskTests r i t) 0) (finishTests st) (taskTests r i t)
       (neither (eqb (st .live) 0) 11 0 (λ e. omega arith) (λ e. omega arith))
       (task-15 i t)
       (sym (finish-answer r i t) ∙ e)

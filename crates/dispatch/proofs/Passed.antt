@@ -7,11 +7,11 @@ use lib.Dec.{ltb, eqb}
 use borrow.Author.Tests.{ltb-false, eqb-true, eqb-false, not-false}
 use Rattle.units.specs.Limits.{clockLimit}
 use Rattle.lists.proofs.Tests.{by-cases, or-false-left, or-false-right}
-use Rattle.task_state.specs.Own.{releaseOwn, finishOwn}
+use Rattle.task_state.specs.Tests.{releaseTests, finishTests}
 use Rattle.dispatch.specs.declared.Record.{Record}
 use Rattle.dispatch.specs.Record.{lineAt, stateAt}
 use Rattle.dispatch.specs.Sound.{soundOf}
-use Rattle.dispatch.specs.Refusals.{outside, timeNo, sharedTests, taskNo, lookNo, releaseNo, finishNo}
+use Rattle.dispatch.specs.Refusals.{outside, timeTests, sharedTests, taskTests, lookRefusal, releaseRefusal, finishRefusal}
 
 -- no refusal: this test does not apply, and none after it
 gate : (b : Bool) (m n : ℕ) → 0 < m → cond b m n ≡ 0 → (b ≡ false) × (n ≡ 0)
@@ -29,8 +29,8 @@ pub record Passed (r : Record) (n i t : ℕ) : Type 0 where
 -- 15, then 7 or 13, then 12, then 8
 passed : (r : Record) (n m i t : ℕ) → 0 < m → sharedTests (soundOf r) m n i (r .clock .0) t ≡ 0 → Passed r n i t
 passed r n m i t h e =
-    let a = gate (not (soundOf r)) 15 (cond (outside n i) m (timeNo (r .clock .0) t)) (omega arith) e in
-    let b = gate (outside n i) m (timeNo (r .clock .0) t) h (a .1) in
+    let a = gate (not (soundOf r)) 15 (cond (outside n i) m (timeTests (r .clock .0) t)) (omega arith) e in
+    let b = gate (outside n i) m (timeTests (r .clock .0) t) h (a .1) in
     let c = gate (ltb clockLimit t) 12 (cond (ltb t (r .clock .0)) 8 0) (omega arith) (b .1) in
     let d = gate (ltb t (r .clock .0)) 8 0 (omega arith) (c .1) in
     record {
@@ -43,28 +43,28 @@ passed r n m i t h e =
 
 module _ (r : Record) (i t : ℕ) where
   -- a call for a task
-  pub task-passed : taskNo r i t ≡ 0 → Passed r (r .plan .count) i t
-  unfolding taskNo
+  pub task-passed : taskTests r i t ≡ 0 → Passed r (r .plan .count) i t
+  unfolding taskTests
   task-passed e = passed r (r .plan .count) 7 i t (omega arith) e
 
   -- a look
-  pub look-passed : lookNo r i t ≡ 0 → Passed r (r .plan .cores) i t
-  unfolding lookNo
+  pub look-passed : lookRefusal r i t ≡ 0 → Passed r (r .plan .cores) i t
+  unfolding lookRefusal
   look-passed e = passed r (r .plan .cores) 13 i t (omega arith) e
 
   -- the tests of every call for a task, then its own
-  both : (own : ℕ) → cond (eqb (taskNo r i t) 0) own (taskNo r i t) ≡ 0 → (taskNo r i t ≡ 0) × (own ≡ 0)
+  both : (own : ℕ) → cond (eqb (taskTests r i t) 0) own (taskTests r i t) ≡ 0 → (taskTests r i t ≡ 0) × (own ≡ 0)
   both own e =
-      by-cases (eqb (taskNo r i t) 0)
-      (λ z. (eqb-true (taskNo r i t) 0 z, rw z at e))
-      (λ z. absurd (eqb-false (taskNo r i t) 0 z (rw z at e)))
+      by-cases (eqb (taskTests r i t) 0)
+      (λ z. (eqb-true (taskTests r i t) 0 z, rw z at e))
+      (λ z. absurd (eqb-false (taskTests r i t) 0 z (rw z at e)))
 
   -- a release
-  pub release-passed : releaseNo r i t ≡ 0 → Passed r (r .plan .count) i t × (releaseOwn (lineAt r (i - 1)) (stateAt r (i - 1)) t ≡ 0)
-  unfolding releaseNo
-  release-passed e = let p = both (releaseOwn (lineAt r (i - 1)) (stateAt r (i - 1)) t) e in (task-passed (p .0), p .1)
+  pub release-passed : releaseRefusal r i t ≡ 0 → Passed r (r .plan .count) i t × (releaseTests (lineAt r (i - 1)) (stateAt r (i - 1)) t ≡ 0)
+  unfolding releaseRefusal
+  release-passed e = let p = both (releaseTests (lineAt r (i - 1)) (stateAt r (i - 1)) t) e in (task-passed (p .0), p .1)
 
   -- a finish
-  pub finish-passed : finishNo r i t ≡ 0 → Passed r (r .plan .count) i t × (finishOwn (stateAt r (i - 1)) ≡ 0)
-  unfolding finishNo
-  finish-passed e = let p = both (finishOwn (stateAt r (i - 1))) e in (task-passed (p .0), p .1)
+  pub finish-passed : finishRefusal r i t ≡ 0 → Passed r (r .plan .count) i t × (finishTests (stateAt r (i - 1)) ≡ 0)
+  unfolding finishRefusal
+  finish-passed e = let p = both (finishTests (stateAt r (i - 1))) e in (task-passed (p .0), p .1)

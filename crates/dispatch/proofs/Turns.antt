@@ -20,7 +20,7 @@ use Rattle.task_state.specs.State.{freshState, noState}
 use Rattle.task_state.specs.Runs.{turnAt, withRun, withoutRun}
 use Rattle.dispatch.specs.declared.Record.{Record}
 use Rattle.dispatch.specs.Record.{lineAt, stateAt, moved}
-use Rattle.dispatch.specs.Refusals.{releaseNo, finishNo, lookNo}
+use Rattle.dispatch.specs.Refusals.{releaseRefusal, finishRefusal, lookRefusal}
 use Rattle.dispatch.specs.Finish.{finishOf}
 use Rattle.dispatch.specs.Look.{lookOf}
 use Rattle.dispatch.specs.Shape.{Good}
@@ -92,9 +92,9 @@ module _ (i : ℕ) (ln : Line) (r : Record) (n : ℕ) (h : Here i ln r n) where
 
   -- a look leaves its turns
   look-at : (k t : ℕ) → At ln (stateAt (lookOf r k t .next) (i - 1)) n
-  look-at k t = go (ℕ-discrete (lookNo r k t) 0)
+  look-at k t = go (ℕ-discrete (lookRefusal r k t) 0)
     where
-      go : Dec (lookNo r k t ≡ 0) → At ln (stateAt (lookOf r k t .next) (i - 1)) n
+      go : Dec (lookRefusal r k t ≡ 0) → At ln (stateAt (lookOf r k t .next) (i - 1)) n
       go (yes e) = rw (look-taken r k t e) (h .turns)
       go (no z) = rw (look-refused r k t z) (h .turns)
 
@@ -104,9 +104,9 @@ module _ (i : ℕ) (ln : Line) (r : Record) (n : ℕ) (h : Here i ln r n) where
 
   -- and so does a finish
   finish-at : (j t : ℕ) → At ln (stateAt (finishOf r j t .next) (i - 1)) n
-  finish-at j t = go (ℕ-discrete (finishNo r j t) 0) (ℕ-discrete (i - 1) (j - 1))
+  finish-at j t = go (ℕ-discrete (finishRefusal r j t) 0) (ℕ-discrete (i - 1) (j - 1))
     where
-      go : Dec (finishNo r j t ≡ 0) → Dec (i - 1 ≡ j - 1) → At ln (stateAt (finishOf r j t .next) (i - 1)) n
+      go : Dec (finishRefusal r j t ≡ 0) → Dec (i - 1 ≡ j - 1) → At ln (stateAt (finishOf r j t .next) (i - 1)) n
       go (no z) d = rw (finish-refused r j t z) (h .turns)
       go (yes e) (no d) = rw (finish-taken r j t e) (other-at (j - 1) t (withoutRun (stateAt r (j - 1))) d)
       go (yes e) (yes d) =
@@ -115,11 +115,11 @@ module _ (i : ℕ) (ln : Line) (r : Record) (n : ℕ) (h : Here i ln r n) where
 
   -- a release
   release-next : (j t : ℕ) → Next i ln r n (release j t)
-  release-next j t = go (ℕ-discrete (releaseNo r j t) 0) (ℕ-discrete j i)
+  release-next j t = go (ℕ-discrete (releaseRefusal r j t) 0) (ℕ-discrete j i)
     where
-      go : Dec (releaseNo r j t ≡ 0) → Dec (j ≡ i) → Next i ln r n (release j t)
+      go : Dec (releaseRefusal r j t ≡ 0) → Dec (j ≡ i) → Next i ln r n (release j t)
       go (no z) d = inl (
-        rw (release-answer r j t, ne-eqb (releaseNo r j t) 0 z, and-false (eqb j i)),
+        rw (release-answer r j t, ne-eqb (releaseRefusal r j t) 0 z, and-false (eqb j i)),
         here-on (release j t) n (rw (release-refused r j t z) (h .turns)),
       )
       go (yes e) (no d) = inl (
@@ -127,7 +127,7 @@ module _ (i : ℕ) (ln : Line) (r : Record) (n : ℕ) (h : Here i ln r n) where
         here-on (release j t) n (rw (release-taken r j t e) (other-at (j - 1) t (withRun (lineAt r (j - 1)) (stateAt r (j - 1)) t) (λ q. d (omega (arith, release-passed r j t e .0 .from, h .from))))),
       )
       go (yes e) (yes d) = inr (
-        rw (eq-eqb j i d, release-answer r j t, eq-eqb (releaseNo r j t) 0 e, release-core r j t e, d, h .line) (ap (λ (k : ℕ). k ∷ []) (at-core ln (stateAt r (i - 1)) n (h .turns))),
+        rw (eq-eqb j i d, release-answer r j t, eq-eqb (releaseRefusal r j t) 0 e, release-core r j t e, d, h .line) (ap (λ (k : ℕ). k ∷ []) (at-core ln (stateAt r (i - 1)) n (h .turns))),
         here-on (release j t) (suc n)
             (rw (release-taken r j t e, d, getD-set-same (r .states) (i - 1) (withRun (lineAt r (i - 1)) (stateAt r (i - 1)) t) noState inside, h .line)
             (at-release ln (stateAt r (i - 1)) n (h .turns) t)),

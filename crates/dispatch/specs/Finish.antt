@@ -8,7 +8,7 @@ use Rattle.task_state.specs.Runs.{withoutRun}
 use Rattle.dispatch.specs.declared.Record.{Record}
 use Rattle.dispatch.specs.declared.finish.Finished.{Finished}
 use Rattle.dispatch.specs.Record.{stateAt, moved}
-use Rattle.dispatch.specs.Refusals.{finishNo}
+use Rattle.dispatch.specs.Refusals.{finishRefusal}
 
 -- an accepted finish of task i, from 1: negative if early, 0 if on the deadline
 unfoldable pub takeFinish : Record → ℕ → ℕ → Finished
@@ -24,4 +24,4 @@ refuseFinish n r = record { refusal = n; late = pos 0; next = r }
 
 -- finish
 unfoldable pub finishOf : Record → ℕ → ℕ → Finished
-finishOf r i t = cond (eqb (finishNo r i t) 0) (takeFinish r i t) (refuseFinish (finishNo r i t) r)
+finishOf r i t = cond (eqb (finishRefusal r i t) 0) (takeFinish r i t) (refuseFinish (finishRefusal r i t) r)

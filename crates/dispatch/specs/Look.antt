@@ -14,7 +14,7 @@ use Rattle.dispatch.specs.declared.look.Choice.the-variants.{Idle, Fixed
 use Rattle.dispatch.specs.declared.look.Best.{Best}
 use Rattle.dispatch.specs.declared.look.Looked.{Looked}
 use Rattle.dispatch.specs.Record.{lineAt, stateAt}
-use Rattle.dispatch.specs.Refusals.{lookNo}
+use Rattle.dispatch.specs.Refusals.{lookRefusal}
 
 -- the better of the best task so far and task i, from 1: lowest task number at a tie
 abbrev pub betterTask : Best → ℕ → Line → State → ℕ → Best
@@ -51,6 +51,6 @@ atTime r t = record { plan = r .plan; clock = ticks t; states = r .states }
 -- look
 unfoldable pub lookOf : Record → ℕ → ℕ → Looked
 lookOf r k t =
-    cond (eqb (lookNo r k t) 0)
+    cond (eqb (lookRefusal r k t) 0)
     (record { refusal = 0; choice = choiceOf r k; next = atTime r t })
-    (record { refusal = lookNo r k t; choice = Idle; next = r })
+    (record { refusal = lookRefusal r k t; choice = Idle; next = r })

@@ -7,7 +7,7 @@ use Rattle.task_state.specs.Runs.{turnAt, withRun}
 use Rattle.dispatch.specs.declared.Record.{Record}
 use Rattle.dispatch.specs.declared.release.Released.{Released}
 use Rattle.dispatch.specs.Record.{lineAt, stateAt, moved}
-use Rattle.dispatch.specs.Refusals.{releaseNo}
+use Rattle.dispatch.specs.Refusals.{releaseRefusal}
 
 -- an accepted release of task i, from 1
 unfoldable pub takeRelease : Record → ℕ → ℕ → Released
@@ -24,4 +24,4 @@ refuseRelease n r = record { refusal = n; core = 0; deadline = ticks 0; next = r
 
 -- release
 unfoldable pub releaseOf : Record → ℕ → ℕ → Released
-releaseOf r i t = cond (eqb (releaseNo r i t) 0) (takeRelease r i t) (refuseRelease (releaseNo r i t) r)
+releaseOf r i t = cond (eqb (releaseRefusal r i t) 0) (takeRelease r i t) (refuseRelease (releaseRefusal r i t) r)

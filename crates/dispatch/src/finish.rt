@@ -1,6 +1,7 @@
 // Finish.
 use crate::Record;
-use crate::refusals::first_no;
+use crate::refusals::shared_tests;
+use units::refusal::Refusal;
 use units::ticks::Ticks;
 ghost use mathlib.Core.Path.{_≡_};
 ghost use Rattle.dispatch.specs.Finish.{finishOf};
@@ -20,12 +21,12 @@ impl Record {
     {
         let clock = self.clock;
         let sound = self.sound();
-        let mut no = first_no(sound, 7, self.plan.count, task, clock, time);
+        let mut no = shared_tests(sound, Refusal::TASK, self.plan.count, task, clock, time);
         let mut late: i64 = 0;
         if no == 0 {
             let i = task - 1;
             let state = self.states[i];
-            no = state.finish_own();
+            no = state.finish_tests();
             if no == 0 {
                 let oldest = state.runs[0];
                 late = time.0 as i64 - oldest.deadline.0 as i64;

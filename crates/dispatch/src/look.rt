@@ -1,9 +1,10 @@
 // Look.
 use crate::Record;
-use crate::refusals::first_no;
+use crate::refusals::shared_tests;
 use planning::Line;
 use task_state::State;
 use units::limits::TASKS;
+use units::refusal::Refusal;
 use units::ticks::Ticks;
 ghost use mathlib.Core.Path.{_≡_};
 ghost use mathlib.Core.Bool.{true};
@@ -83,7 +84,7 @@ impl Record {
     {
         let clock = self.clock;
         let sound = self.sound();
-        let no = first_no(sound, 13, self.plan.cores, core, clock, time);
+        let no = shared_tests(sound, Refusal::CORE, self.plan.cores, core, clock, time);
         let mut choice = Choice::Idle;
         if no == 0 {
             let lines = self.plan.lines;

@@ -1,10 +1,10 @@
 // Planning for the dispatcher: a fresh record.
 use crate::Record;
-use admission::refusals::Refusal;
 use planning::Plan;
 use planning::plan_of;
 use task_state::State;
 use units::limits::TASKS;
+use units::refusal::Refusal;
 use units::ticks::Ticks;
 ghost use mathlib.Core.Path.{_≡_};
 ghost use Rattle.dispatch.specs.Record.{recordOf, freshOf};

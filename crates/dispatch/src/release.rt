@@ -1,6 +1,7 @@
 // Release.
 use crate::Record;
-use crate::refusals::first_no;
+use crate::refusals::shared_tests;
+use units::refusal::Refusal;
 use units::ticks::Ticks;
 ghost use mathlib.Core.Path.{_≡_};
 ghost use Rattle.dispatch.specs.Release.{releaseOf};
@@ -21,7 +22,7 @@ impl Record {
     {
         let clock = self.clock;
         let sound = self.sound();
-        let mut no = first_no(sound, 7, self.plan.count, task, clock, time);
+        let mut no = shared_tests(sound, Refusal::TASK, self.plan.count, task, clock, time);
         let mut core: usize = 0;
         let mut deadline = Ticks(0);
         if no == 0 {
@@ -29,7 +30,7 @@ impl Record {
             let lines = self.plan.lines;
             let line = lines[i];
             let state = self.states[i];
-            no = state.release_own(line, time);
+            no = state.release_tests(line, time);
             if no == 0 {
                 let taken = state.with_run(line, time);
                 let after = taken.state;

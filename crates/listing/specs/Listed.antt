@@ -16,7 +16,7 @@ unlisted n = record { refusal = n; length = 0 }
 
 -- a plan's listing in a buffer of so many bytes: refusal 14, or the listing's length
 unfoldable pub planListed : Plan → ℕ → Listed
-planListed pl room = cond (leb (length (listingText pl)) room) (record { refusal = 0; length = length (listingText pl) }) (unlisted 14)
+planListed pl room = cond (leb (length (listingText pl)) room) (record { refusal = 0; length = length (listingText pl) }) (unlisted bufferNo)
 
 -- the buffer after it: the listing and then what it was, or all as it was
 unfoldable pub planAfter : Plan → List ℕ → List ℕ
@@ -24,7 +24,7 @@ planAfter pl buf = cond (leb (length (listingText pl)) (length buf)) (listingTex
 
 -- a record's listing: refusal 15 where it is not sound, else its plan's
 unfoldable pub listedOf : Record → ℕ → Listed
-listedOf r room = cond (soundOf r) (planListed (r .plan) room) (unlisted 15)
+listedOf r room = cond (soundOf r) (planListed (r .plan) room) (unlisted unsoundNo)
 
 -- the buffer after it: as it was where the record is not sound
 unfoldable pub bufferAfter : Record → List ℕ → List ℕ

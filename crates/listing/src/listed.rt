@@ -3,6 +3,7 @@ use crate::writers::put_plan;
 use dispatch::Record;
 use lateness::bounds::bounds_of;
 use planning::Plan;
+use units::refusal::Refusal;
 ghost use mathlib.Core.Bool.{true};
 ghost use mathlib.Core.Path.{_≡_};
 ghost use lib.ListN.{length};
@@ -36,7 +37,7 @@ pub fn list_plan(plan: Plan, buf: &mut [u8]) -> Listed
     let need = put_plan(&mut one, plan, lates);
     if buf.len() < need {
         return Listed {
-            refusal: 14,
+            refusal: Refusal::BUFFER,
             length: 0,
         };
     }
@@ -54,7 +55,7 @@ pub fn list(from: Record, buf: &mut [u8]) -> Listed
 {
     if !from.sound() {
         return Listed {
-            refusal: 15,
+            refusal: Refusal::UNSOUND,
             length: 0,
         };
     }

@@ -8,7 +8,7 @@ use lib.ListN.{length}
 use Rattle.units.specs.Limits.{tasksLimit}
 use Rattle.writing.specs.Decimal.{decimalOf}
 use Rattle.writing.specs.Field.{field, lineEnd}
-use Rattle.admission.specs.declared.refusals.Refusal.{Refusal}
+use Rattle.units.specs.declared.refusal.Refusal.{Refusal}
 use Rattle.planning.specs.declared.Planned.{Planned}
 use Rattle.planning.specs.Plan.{planOf}
 use Rattle.planning.specs.Kept.{PlanKept}
@@ -29,7 +29,7 @@ module _ (r : Refusal) where
   unnamed e = rw (e, append-nil (decimalOf (r .no))) refl
 
   -- one that names a task
-  pub named : (r .task ≡ 0 → ⊥) → (field "refused " (r .no) ++ field " task " (r .task)) ++ lineEnd ≡ refusalText r
+  pub named : (r .task ≡ 0 → ⊥) → (field "refused " (r .no) ++ field " task " (r .named)) ++ lineEnd ≡ refusalText r
   unfolding refusalText
   named e = rw (ne-eqb (r .task) 0 e)
 

@@ -5,7 +5,7 @@ use mathlib.Core.List.{List, [], _++_}
 use lib.Dec.{eqb}
 use Rattle.writing.specs.Field.{field, lineEnd}
 use Rattle.table_text.specs.Text.{Said, says, unreadable, textOf}
-use Rattle.admission.specs.declared.refusals.Refusal.{Refusal}
+use Rattle.units.specs.declared.refusal.Refusal.{Refusal}
 use Rattle.planning.specs.declared.Planned.{Planned}
 use Rattle.planning.specs.Plan.{planOf}
 use Rattle.listing.specs.Listing.{listingText}

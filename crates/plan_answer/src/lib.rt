@@ -1,10 +1,10 @@
 // What the program writes for a text: the listing, or the refusal's line.
-use admission::refusals::Refusal;
 use lateness::bounds::bounds_of;
 use listing::writers::put_plan;
 use planning::plan_of;
 use table_text::Reading;
 use table_text::read_text;
+use units::refusal::Refusal;
 use writing::put_byte;
 use writing::put_field;
 ghost use Prim.Native.Nat.{_+_, _≤_};

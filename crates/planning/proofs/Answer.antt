@@ -9,7 +9,7 @@ use Rattle.units.specs.Units.{nums}
 use Rattle.units.proofs.Units.{nums-units}
 use Rattle.arith.specs.Period.{periods, common}
 use Rattle.admission.specs.Weight.{weights, padded}
-use Rattle.admission.specs.Refusals.{taken}
+use Rattle.units.specs.Refusals.{taken}
 use Rattle.admission.specs.Admission.{planRefusal, refusedWith, takenWith, admissionOf}
 use Rattle.admission.specs.declared.admit.Admission.{Admission}
 use Rattle.admission.proofs.Admitting.{passed}

@@ -10,9 +10,9 @@ use Rattle.lists.specs.Lists.{zeros}
 use Rattle.arith.specs.Period.{periods, common}
 use Rattle.admission.specs.Weight.{weights, padded}
 use Rattle.admission.specs.Admission.{planRefusal}
-use Rattle.admission.specs.Refusals.{taken}
+use Rattle.units.specs.Refusals.{taken}
 use Rattle.assignment.specs.Passes.{sharesOf, rooms}
-use Rattle.admission.specs.declared.refusals.Refusal.{Refusal}
+use Rattle.units.specs.declared.refusal.Refusal.{Refusal}
 use Rattle.planning.specs.declared.Line.{Line}
 use Rattle.planning.specs.declared.Plan.{Plan}
 use Rattle.planning.specs.declared.Planned.{Planned}

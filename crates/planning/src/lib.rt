@@ -1,10 +1,10 @@
 // Planning: from a core count and a lent table to a plan, or to the first refusal that applies.
 use admission::admit::admit;
-use admission::refusals::Refusal;
 use assignment::Row;
 use assignment::shares_of;
 use units::limits::CORES;
 use units::limits::TASKS;
+use units::refusal::Refusal;
 use units::share::Share;
 use units::ticks::Ticks;
 ghost use mathlib.Core.Path.{_≡_};

@@ -11,11 +11,11 @@ use Rattle.lists.proofs.Tests.{by-cases}
 use Rattle.planning.specs.declared.Line.{Line}
 use Rattle.planning.specs.Plan.{rowOf}
 use Rattle.task_state.specs.declared.State.{State}
-use Rattle.task_state.specs.Own.{early, releaseOwn, finishOwn}
+use Rattle.task_state.specs.Tests.{early, releaseTests, finishTests}
 use Rattle.task_state.specs.Runs.{Releasable}
 use Rattle.task_state.proofs.Facts.{Facts, turnable}
 
-module _ (ln : Line) (st : State) (t : ℕ) (e : releaseOwn ln st t ≡ 0) where
+module _ (ln : Line) (st : State) (t : ℕ) (e : releaseTests ln st t ≡ 0) where
   -- a release is not early
   pub not-early : early ln st t ≡ false
   not-early = by-cases (early ln st t) (λ b. absurd (omega (arith, rw b at e))) (λ b. b)
@@ -34,7 +34,7 @@ module _ (ln : Line) (st : State) (t : ℕ) (e : releaseOwn ln st t ≡ 0) where
       record { turn = turnable ln st f small shares; room = has-room (f .few); time = time; period = period }
 
 -- a finish finds a run
-pub has-run : (st : State) → finishOwn st ≡ 0 → 0 < st .live
+pub has-run : (st : State) → finishTests st ≡ 0 → 0 < st .live
 has-run st e =
     by-cases (eqb (st .live) 0)
     (λ b. absurd (omega (arith, rw b at e)))

@@ -1,6 +1,6 @@
 pub mod State
 pub mod Sound
-pub mod Own
 pub mod Runs
 pub mod Key
 pub mod Shape
+pub mod Tests

@@ -1,8 +1,8 @@
 // What a task is at, beside its line of the plan.
 pub mod key;
-pub mod own;
 pub mod rules;
 pub mod runs;
+pub mod tests;
 
 use units::limits::CORES;
 use units::limits::RUNS;

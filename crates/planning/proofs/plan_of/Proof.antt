@@ -1,7 +1,7 @@
 use Rattle.planning.proofs.Answer.{refused, taken-none, taken-plan, taken-few}
 use Rattle.planning.specs.Plan.{refusedPlan, takenPlan}
 use Rattle.planning.specs.declared.Plan.{Plan}
-use Rattle.admission.specs.declared.refusals.Refusal.{Refusal}
+use Rattle.units.specs.declared.refusal.Refusal.{Refusal}
 use mathlib.Core.Path.{ap, ap₂, _∙_}
 use borrow.Author.Needs.{needs}
 use Rattle.planning.proofs.plan_of.Statement.{statement}

@@ -1,4 +1,4 @@
-use Rattle.admission.specs.declared.refusals.Refusal.{Refusal}
+use Rattle.units.specs.declared.refusal.Refusal.{Refusal}
 use Rattle.admission.proofs.Admitting.{answered, input-decides}
 use mathlib.Core.Path.{sym, ap, _∙_}
 use borrow.Author.Needs.{needs}

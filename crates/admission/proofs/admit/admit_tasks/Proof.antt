@@ -4,7 +4,7 @@ use Rattle.units.specs.declared.share.Share.{Share}
 use Rattle.units.proofs.Units.{units-nums}
 use Rattle.arith.specs.Period.{periods, periodOf}
 use Rattle.arith.specs.declared.period.Period.the-variants.{Common}
-use Rattle.admission.specs.Refusals.{refusal, taken}
+use Rattle.units.specs.Refusals.{refusal, taken, weightsNo, periodNo}
 use Rattle.admission.specs.Admission.{takenWith}
 use Rattle.admission.proofs.Admitting.{answered, over, heavy, light, weighable, cores-small}
 use mathlib.Core.Path.{_≡_, sym, ap, _∙_}
@@ -46,7 +46,7 @@ returns c =
     let s = c .before .before .before .before .before .before .before .before .before in
     let a = c .before .before .before .before .before in
     let w = c .before .before .before .weigh in
-    c .refused2 .ensures ∙ answered (s .args .cores) (s .args .table .now) (refusal 6 0)
+    c .refused2 .ensures ∙ answered (s .args .cores) (s .args .table .now) (refusal weightsNo 0)
     (heavy (s .args .cores) (s .args .table .now) (s .pre) (a .l .given .0 .0) (known a) (omega (arith, w .ensures .1, c .before .if1 .taken)))
     (λ z. omega arith)
 
@@ -54,7 +54,7 @@ returns-2 : tie.Need-returns-2
 returns-2 c =
     let s = c .before .before .before .before .before .before in
     let k = c .before .before in
-    c .refused .ensures ∙ answered (s .args .cores) (s .args .table .now) (refusal 5 (k .k .given .0 .0))
+    c .refused .ensures ∙ answered (s .args .cores) (s .args .table .now) (refusal periodNo (k .k .given .0 .0))
     (over (s .args .cores) (s .args .table .now) (s .pre) (k .k .given .0 .0) (sym (k .before .before .common-period .ensures) ∙ k .k .given .1))
     (λ z. omega arith)
 

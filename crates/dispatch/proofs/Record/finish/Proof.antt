@@ -1,8 +1,8 @@
 use Rattle.dispatch.proofs.Passed.{Passed, task-passed}
 use Rattle.dispatch.proofs.Called.{below, oldest-small}
-use Rattle.dispatch.proofs.Numbers.{task-first, finish-first, finish-own, finish-refused, finish-taken}
+use Rattle.dispatch.proofs.Numbers.{task-first, finish-first, finish-tests, finish-refused, finish-taken}
 use Rattle.dispatch.specs.Record.{stateAt, moved}
-use Rattle.dispatch.specs.Refusals.{taskNo, finishNo}
+use Rattle.dispatch.specs.Refusals.{taskTests, finishRefusal}
 use Rattle.dispatch.specs.Finish.{takeFinish, refuseFinish}
 use Rattle.task_state.specs.declared.State.{State}
 use Rattle.task_state.specs.Key.{deadlineOf}
@@ -20,20 +20,20 @@ use Rattle.dispatch.proofs.Record.finish.Tie as tie
 sound-requires : tie.Need-sound-requires
 sound-requires c κs = search needs
 
-first-no-requires : tie.Need-first-no-requires
-first-no-requires c κs = search needs
+shared-tests-requires : tie.Need-shared-tests-requires
+shared-tests-requires c κs = search needs
 
 -- what was tested first
-first : (c : tie.After-first-no) → c .first-no .result ≡ taskNo (c .before .before .before .args .t1) (c .before .before .before .args .task) (c .before .before .before .args .time .0)
-first c = task-first (c .before .before .before .args .t1) (c .before .before .before .args .task) (c .before .before .before .args .time .0) (c .before .sound .result) (c .first-no .result) (c .before .sound .ensures) (c .first-no .ensures)
+first : (c : tie.After-shared-tests) → c .shared-tests .result ≡ taskTests (c .before .before .before .args .t1) (c .before .before .before .args .task) (c .before .before .before .args .time .0)
+first c = task-first (c .before .before .before .args .t1) (c .before .before .before .args .task) (c .before .before .before .args .time .0) (c .before .sound .result) (c .shared-tests .result) (c .before .sound .ensures) (c .shared-tests .ensures)
 
 -- what is known after that
 known : (c : tie.Then1) → Passed (c .before .before .before .before .args .t1) (c .before .before .before .before .args .t1 .plan .count) (c .before .before .before .before .args .task) (c .before .before .before .before .args .time .0)
 known c = task-passed (c .before .before .before .before .args .t1) (c .before .before .before .before .args .task) (c .before .before .before .before .args .time .0) (sym (first (c .before)) ∙ c .if1 .taken)
 
 -- the finish's number
-own : (c : tie.After-finish-own) → c .finish-own .result ≡ finishNo (c .before .before .before .before .before .before .args .t1) (c .before .before .before .before .before .before .args .task) (c .before .before .before .before .before .before .args .time .0)
-own c = finish-own (c .before .before .before .before .before .before .args .t1) (c .before .before .before .before .before .before .args .task) (c .before .before .before .before .before .before .args .time .0) (c .before .before .before .first-no .result) (first (c .before .before .before)) (c .before .before .if1 .taken) (c .finish-own .result) (c .finish-own .ensures)
+own : (c : tie.After-finish-tests) → c .finish-tests .result ≡ finishRefusal (c .before .before .before .before .before .before .args .t1) (c .before .before .before .before .before .before .args .task) (c .before .before .before .before .before .before .args .time .0)
+own c = finish-tests (c .before .before .before .before .before .before .args .t1) (c .before .before .before .before .before .before .args .task) (c .before .before .before .before .before .before .args .time .0) (c .before .before .before .shared-tests .result) (first (c .before .before .before)) (c .before .before .if1 .taken) (c .finish-tests .result) (c .finish-tests .ensures)
 
 -- the deadline of the run that is ended
 small : (c : tie.Then1) → deadlineOf (stateAt (c .before .before .before .before .args .t1) (c .before .before .before .before .args .task - 1)) ≤ clockLimit + periodLimit
@@ -48,8 +48,8 @@ mul-state c = omega (arith, below (c .before .before .before .before .args .t1) 
 element-copy-out-state : tie.Need-element-copy-out-state
 element-copy-out-state c = omega (arith, below (c .before .before .before .before .args .t1) (c .before .before .before .before .args .task) (c .before .before .before .before .args .time .0) (known c))
 
-finish-own-requires : tie.Need-finish-own-requires
-finish-own-requires c κs = search needs
+finish-tests-requires : tie.Need-finish-tests-requires
+finish-tests-requires c κs = search needs
 
 element-copy-out-oldest : tie.Need-element-copy-out-oldest
 element-copy-out-oldest c = search needs
@@ -66,7 +66,7 @@ sub-late c =
     sub-fits (s .time .0) (deadlineOf (stateAt (s .t1) (s .task - 1))) (omega (arith, known (c .before .before .before .before .before .before) .limit)) (omega (arith, small (c .before .before .before .before .before .before)))
 
 without-run-requires : tie.Need-without-run-requires
-without-run-requires c κs = has-run (stateAt (c .before .before .before .before .before .before .before .before .before .before .args .t1) (c .before .before .before .before .before .before .before .before .before .before .args .task - 1)) (sym (c .before .before .before .before .finish-own .ensures) ∙ c .before .before .before .if2 .taken)
+without-run-requires c κs = has-run (stateAt (c .before .before .before .before .before .before .before .before .before .before .args .t1) (c .before .before .before .before .before .before .before .before .before .before .args .task - 1)) (sym (c .before .before .before .before .finish-tests .ensures) ∙ c .before .before .before .if2 .taken)
 
 mul-after : tie.Need-mul-after
 mul-after c = omega (arith, below (c .before .before .before .before .before .before .before .before .before .before .before .args .t1) (c .before .before .before .before .before .before .before .before .before .before .before .args .task) (c .before .before .before .before .before .before .before .before .before .before .before .args .time .0) (known (c .before .before .before .before .before .before .before)))
@@ -87,12 +87,12 @@ returns c =
 
 returns-2 : tie.Need-returns-2
 unfolding refuseFinish
-returns-2 c = finish-refused (c .before .before .before .before .before .before .before .args .t1) (c .before .before .before .before .before .before .before .args .task) (c .before .before .before .before .before .before .before .args .time .0) (c .before .finish-own .result) (own (c .before)) (c .if2 .left)
+returns-2 c = finish-refused (c .before .before .before .before .before .before .before .args .t1) (c .before .before .before .before .before .before .before .args .task) (c .before .before .before .before .before .before .before .args .time .0) (c .before .finish-tests .result) (own (c .before)) (c .if2 .left)
 
 returns-3 : tie.Need-returns-3
 unfolding refuseFinish
 returns-3 c =
-    let n = c .before .first-no .result in
+    let n = c .before .shared-tests .result in
     finish-refused (c .before .before .before .before .args .t1) (c .before .before .before .before .args .task) (c .before .before .before .before .args .time .0) n (finish-first (c .before .before .before .before .args .t1) (c .before .before .before .before .args .task) (c .before .before .before .before .args .time .0) n (first (c .before)) (c .if1 .left)) (c .if1 .left)
 
 pub finish-spec : {M : Type 1} → statement M
@@ -100,11 +100,11 @@ finish-spec =
     tie.close
     (tie.spec
     sound-requires
-    first-no-requires
+    shared-tests-requires
     sub-i
     mul-state
     element-copy-out-state
-    finish-own-requires
+    finish-tests-requires
     element-copy-out-oldest
     cast-late
     cast-late-2

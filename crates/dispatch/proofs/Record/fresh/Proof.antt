@@ -1,7 +1,7 @@
 use Rattle.dispatch.specs.Record.{recordOf, freshOf}
 use Rattle.dispatch.specs.declared.Record.{Record}
 use Rattle.planning.specs.declared.Planned.{Planned}
-use Rattle.admission.specs.declared.refusals.Refusal.{Refusal}
+use Rattle.units.specs.declared.refusal.Refusal.{Refusal}
 use mathlib.Core.Path.{ap, ap₂, _∙_}
 use borrow.Author.Needs.{needs}
 use Rattle.dispatch.proofs.Record.fresh.Statement.{statement}

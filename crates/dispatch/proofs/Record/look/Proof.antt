@@ -4,7 +4,7 @@ use Rattle.dispatch.proofs.Passed.{Passed, look-passed}
 use Rattle.dispatch.proofs.Held.{held, waits-due}
 use Rattle.soundness.proofs.Facts.{cores-few}
 use Rattle.dispatch.specs.Look.{bestOf, choiceOf, atTime}
-use Rattle.dispatch.specs.Refusals.{lookNo}
+use Rattle.dispatch.specs.Refusals.{lookRefusal}
 use Rattle.dispatch.specs.declared.look.Choice.{Choice}
 use Rattle.units.specs.Limits.{tasksLimit}
 use native.Mathlib.Omega.{arith}
@@ -24,12 +24,12 @@ abbrev μ-loop : tie.MeasureT-loop
 sound-requires : tie.Need-sound-requires Inv-loop μ-loop
 sound-requires c κs = search needs
 
-first-no-requires : tie.Need-first-no-requires Inv-loop μ-loop
-first-no-requires c κs = search needs
+shared-tests-requires : tie.Need-shared-tests-requires Inv-loop μ-loop
+shared-tests-requires c κs = search needs
 
 -- what was tested
-first : (c : tie.After-first-no Inv-loop μ-loop) → c .first-no .result ≡ lookNo (c .before .before .before .args .t1) (c .before .before .before .args .core) (c .before .before .before .args .time .0)
-first c = look-first (c .before .before .before .args .t1) (c .before .before .before .args .core) (c .before .before .before .args .time .0) (c .before .sound .result) (c .first-no .result) (c .before .sound .ensures) (c .first-no .ensures)
+first : (c : tie.After-shared-tests Inv-loop μ-loop) → c .shared-tests .result ≡ lookRefusal (c .before .before .before .args .t1) (c .before .before .before .args .core) (c .before .before .before .args .time .0)
+first c = look-first (c .before .before .before .args .t1) (c .before .before .before .args .core) (c .before .before .before .args .time .0) (c .before .sound .result) (c .shared-tests .result) (c .before .sound .ensures) (c .shared-tests .ensures)
 
 -- what is known after that
 known : (c : tie.Then1 Inv-loop μ-loop) → Passed (c .before .before .before .before .args .t1) (c .before .before .before .before .args .t1 .plan .cores) (c .before .before .before .before .args .core) (c .before .before .before .before .args .time .0)
@@ -107,7 +107,7 @@ returns c =
     ∙ look-taken (s .t1) (s .core) (s .time .0) (sym (first (c .before .before .before .before .before .before)) ∙ e)
 
 returns-2 : tie.Need-returns-2 Inv-loop μ-loop
-returns-2 c = look-refused (c .before .before .before .before .args .t1) (c .before .before .before .before .args .core) (c .before .before .before .before .args .time .0) (c .before .first-no .result) (first (c .before)) (c .if1 .left)
+returns-2 c = look-refused (c .before .before .before .before .args .t1) (c .before .before .before .before .args .core) (c .before .before .before .before .args .time .0) (c .before .shared-tests .result) (first (c .before)) (c .if1 .left)
 
 pub look-spec : {M : Type 1} → statement M
 look-spec =
@@ -116,7 +116,7 @@ look-spec =
     Inv-loop
     μ-loop
     sound-requires
-    first-no-requires
+    shared-tests-requires
     loop-holds
     mul-line
     array-copy-out-line

@@ -2,8 +2,8 @@ use native.Mathlib.Omega.{arith}
 use borrow.Author.Needs.{needs}
 use borrow.Author.Tests.{eq-eqb, ne-eqb}
 use Rattle.units.specs.Limits.{runsLimit}
-use Rattle.task_state.proofs.State.release_own.Statement.{statement}
-use Rattle.task_state.proofs.State.release_own.Tie as tie
+use Rattle.task_state.proofs.State.release_tests.Statement.{statement}
+use Rattle.task_state.proofs.State.release_tests.Tie as tie
 
 add-if1 : tie.Need-add-if1
 add-if1 c = search needs
@@ -23,5 +23,5 @@ returns-3 c =
     let live = e .before .before .before .before .before .args .self .live in
     rw (e .if1 .left, ne-eqb live runsLimit (c .if2 .left))
 
-pub release-own-spec : {M : Type 1} → statement M
-release-own-spec = tie.close (tie.spec add-if1 returns returns-2 returns-3)
+pub release-tests-spec : {M : Type 1} → statement M
+release-tests-spec = tie.close (tie.spec add-if1 returns returns-2 returns-3)

@@ -1,0 +1,97 @@
+-- Document 01, "Refusal numbers": a refusal, and the number of each case.
+use Prim.Native.Nat.{ℕ}
+use Rattle.units.specs.declared.refusal.Numbers.{Numbers}
+use Rattle.units.specs.declared.refusal.Refusal.{Refusal}
+
+-- a refusal's number, and the task or the line that it names
+abbrev pub refusal : ℕ → ℕ → Refusal
+refusal n i = record { no = n; named = i }
+
+-- no refusal
+abbrev pub taken : Refusal
+taken = refusal 0 0
+
+-- core count 0 or above 16
+abbrev pub coresNo : ℕ
+coresNo = 1
+
+-- table empty, over 64 tasks, or ending inside a task
+abbrev pub tableNo : ℕ
+tableNo = 2
+
+-- a task has cost 0, period 0 or period above its limit
+abbrev pub rangeNo : ℕ
+rangeNo = 3
+
+-- a task's cost exceeds its period
+abbrev pub costNo : ℕ
+costNo = 4
+
+-- the common period exceeds its limit
+abbrev pub periodNo : ℕ
+periodNo = 5
+
+-- the weights sum to more than M × L
+abbrev pub weightsNo : ℕ
+weightsNo = 6
+
+-- task number 0 or above N
+abbrev pub taskNo : ℕ
+taskNo = 7
+
+-- the call's time is below the stored clock
+abbrev pub pastNo : ℕ
+pastNo = 8
+
+-- a release less than T after this task's last accepted release
+abbrev pub earlyNo : ℕ
+earlyNo = 9
+
+-- a release while 8 runs of the task are unfinished
+abbrev pub backlogNo : ℕ
+backlogNo = 10
+
+-- finish of a task with no unfinished run
+abbrev pub noRunNo : ℕ
+noRunNo = 11
+
+-- the call's time is above the clock's limit
+abbrev pub clockNo : ℕ
+clockNo = 12
+
+-- core number 0 or above M
+abbrev pub coreNo : ℕ
+coreNo = 13
+
+-- the listing is longer than the lent buffer
+abbrev pub bufferNo : ℕ
+bufferNo = 14
+
+-- a record handed in is unsound
+abbrev pub unsoundNo : ℕ
+unsoundNo = 15
+
+-- the program's text can't be read
+abbrev pub textNo : ℕ
+textNo = 16
+
+-- all of them
+abbrev pub theNumbers : Numbers
+theNumbers = record {
+  cores = coresNo;
+  table = tableNo;
+  range = rangeNo;
+  cost = costNo;
+  period = periodNo;
+  weights = weightsNo;
+  task = taskNo;
+  past = pastNo;
+  early = earlyNo;
+  backlog = backlogNo;
+  norun = noRunNo;
+  clock = clockNo;
+  core = coreNo;
+  buffer = bufferNo;
+  unsound = unsoundNo;
+  text = textNo;
+}

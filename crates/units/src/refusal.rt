@@ -1,0 +1,89 @@
+// Refusals of document 01, "Refusal numbers". Each number stands here once and once in specs/Refusals; `in_force` shows that the two agree.
+ghost use mathlib.Core.Path.{_≡_};
+ghost use Rattle.units.specs.Refusals.{theNumbers};
+
+// A refusal's number, and what it names: a task, or a line of a text. 0 and 0 for none.
+pub struct Refusal {
+    pub no: u32,
+    pub named: usize,
+}
+
+impl Refusal {
+    pub const NONE: Refusal = Refusal { no: 0, named: 0 };
+
+    // Core count 0 or above 16.
+    pub const CORES: u32 = 1;
+    // Table empty, over 64 tasks, or ending inside a task.
+    pub const TABLE: u32 = 2;
+    // A task has cost 0, period 0 or period above its limit.
+    pub const RANGE: u32 = 3;
+    // A task's cost exceeds its period.
+    pub const COST: u32 = 4;
+    // The common period exceeds its limit.
+    pub const PERIOD: u32 = 5;
+    // The weights sum to more than M × L.
+    pub const WEIGHTS: u32 = 6;
+    // Task number 0 or above N.
+    pub const TASK: u32 = 7;
+    // The call's time is below the stored clock.
+    pub const PAST: u32 = 8;
+    // A release less than T after the task's last accepted release.
+    pub const EARLY: u32 = 9;
+    // A release while 8 runs of the task are unfinished.
+    pub const BACKLOG: u32 = 10;
+    // Finish of a task with no unfinished run.
+    pub const NO_RUN: u32 = 11;
+    // The call's time is above the clock's limit.
+    pub const CLOCK: u32 = 12;
+    // Core number 0 or above M.
+    pub const CORE: u32 = 13;
+    // The listing is longer than the lent buffer.
+    pub const BUFFER: u32 = 14;
+    // A record handed in is unsound.
+    pub const UNSOUND: u32 = 15;
+    // The program's text can't be read.
+    pub const TEXT: u32 = 16;
+}
+
+pub struct Numbers {
+    pub cores: u32,
+    pub table: u32,
+    pub range: u32,
+    pub cost: u32,
+    pub period: u32,
+    pub weights: u32,
+    pub task: u32,
+    pub past: u32,
+    pub early: u32,
+    pub backlog: u32,
+    pub norun: u32,
+    pub clock: u32,
+    pub core: u32,
+    pub buffer: u32,
+    pub unsound: u32,
+    pub text: u32,
+}
+
+// The numbers that the code goes by are those that the definitions go by.
+pub fn in_force() -> Numbers
+    ensures { λ r. ⌜ r ≡ theNumbers ⌝ }
+{
+    Numbers {
+        cores: Refusal::CORES,
+        table: Refusal::TABLE,
+        range: Refusal::RANGE,
+        cost: Refusal::COST,
+        period: Refusal::PERIOD,
+        weights: Refusal::WEIGHTS,
+        task: Refusal::TASK,
+        past: Refusal::PAST,
+        early: Refusal::EARLY,
+        backlog: Refusal::BACKLOG,
+        norun: Refusal::NO_RUN,
+        clock: Refusal::CLOCK,
+        core: Refusal::CORE,
+        buffer: Refusal::BUFFER,
+        unsound: Refusal::UNSOUND,
+        text: Refusal::TEXT,
+    }
+}
