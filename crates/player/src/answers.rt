@@ -2,6 +2,7 @@
 use dispatch::look::Choice;
 use dispatch::look::Side;
 use units::ticks::Ticks;
+use writing::NEWLINE;
 use writing::put_byte;
 use writing::put_field;
 use writing::put_signed;
@@ -22,7 +23,7 @@ fn put_refused(buf: &mut [u8], at: usize, refusal: u32) -> usize
     ensures { λ r. ⌜ r ≤ at + 60 ⌝ }
 {
     let a = put_field(buf, at, b"refused ", refusal as u64);
-    put_byte(buf, a, 10)
+    put_byte(buf, a, NEWLINE)
 }
 
 // A release's answer.
@@ -36,7 +37,7 @@ pub fn put_released(buf: &mut [u8], at: usize, refusal: u32, core: usize, deadli
     }
     let a = put_field(buf, at, b"core ", core as u64);
     let b = put_field(buf, a, b" deadline ", deadline.0);
-    put_byte(buf, b, 10)
+    put_byte(buf, b, NEWLINE)
 }
 
 // A finish's answer.
@@ -50,7 +51,7 @@ pub fn put_finished(buf: &mut [u8], at: usize, refusal: u32, late: i64) -> usize
     }
     let a = put_text(buf, at, b"late ");
     let b = put_signed(buf, a, late);
-    put_byte(buf, b, 10)
+    put_byte(buf, b, NEWLINE)
 }
 
 // A chosen task and its deadline, after a word.
@@ -98,5 +99,5 @@ pub fn put_looked(buf: &mut [u8], at: usize, refusal: u32, choice: Choice) -> us
         return put_refused(buf, at, refusal);
     }
     let a = put_choice(buf, at, choice);
-    put_byte(buf, a, 10)
+    put_byte(buf, a, NEWLINE)
 }

@@ -1,5 +1,7 @@
 // An answer's line.
 use crate::question::Said;
+use writing::BLANK;
+use writing::NEWLINE;
 use writing::put_byte;
 use writing::put_number;
 use writing::put_signed;
@@ -12,7 +14,7 @@ fn put_word(buf: &mut [u8], at: usize, n: u64) -> usize
     ensures { λ r. ⌜ r ≤ at + 21 ⌝ }
 {
     let next = put_number(buf, at, n);
-    put_byte(buf, next, 32)
+    put_byte(buf, next, BLANK)
 }
 
 // A lateness and a blank, with two zeros after it.
@@ -21,7 +23,7 @@ fn put_late(buf: &mut [u8], at: usize, late: i64) -> usize
     ensures { λ r. ⌜ r ≤ at + 64 ⌝ }
 {
     let a = put_signed(buf, at, late);
-    let b = put_byte(buf, a, 32);
+    let b = put_byte(buf, a, BLANK);
     let c = put_word(buf, b, 0);
     put_word(buf, c, 0)
 }
@@ -49,5 +51,5 @@ pub fn put_line(buf: &mut [u8], sound: bool, refusal: u32, said: Said, sum: u64)
     let b = put_word(buf, a, refusal as u64);
     let c = put_said(buf, b, said);
     let d = put_number(buf, c, sum);
-    put_byte(buf, d, 10)
+    put_byte(buf, d, NEWLINE)
 }
