@@ -1,44 +1,64 @@
 -- What a call for a task may rely on once it has passed 15, 7, 12 and 8.
 use Prim.Native.Nat.{ℕ, _+_, _-_, _≤_, _<_}
 use mathlib.Core.Path.{_≡_}
+use mathlib.Core.Bool.{true}
 use native.Mathlib.Omega.{arith}
-use Rattle.units.specs.Limits.{tasksLimit, periodLimit, clockLimit}
-use Rattle.soundness.proofs.Facts.{period-small, weight-small, shares-sum}
-use Rattle.task_state.specs.Tests.{releaseTests}
-use Rattle.task_state.specs.Key.{deadlineOf}
+use Rattle.units.specs.Limits.{coresLimit, tasksLimit, periodLimit, clockLimit}
+use Rattle.soundness.proofs.Facts.{cores-few, period-small, weight-small, shares-sum}
+use Rattle.task_state.specs.Tests.{releaseTests, finishTests}
+use Rattle.task_state.specs.Key.{deadlineOf, waits}
 use Rattle.task_state.specs.Runs.{Releasable}
 use Rattle.task_state.proofs.Facts.{Facts, facts}
-use Rattle.task_state.proofs.Passed.{releasable}
+use Rattle.task_state.proofs.Passed.{releasable, has-run}
 use Rattle.dispatch.specs.declared.Record.{Record}
 use Rattle.dispatch.specs.Record.{lineAt, stateAt}
-use Rattle.dispatch.proofs.Held.{Held, held, task-below, state-sound, due-small}
-use Rattle.dispatch.proofs.Passed.{Passed}
+use Rattle.dispatch.specs.Refusals.{taskTests}
+use Rattle.dispatch.proofs.Held.{Held, held, task-below, state-sound, due-small, waits-due}
+use Rattle.dispatch.proofs.Passed.{Passed, task-passed}
 
-module _ (r : Record) (i t : ℕ) (p : Passed r (r .plan .count) i t) where
-  kept : Held r
-  kept = held r (p .sound)
-
-  -- the task, from 0
-  here : i - 1 < r .plan .count
-  here = omega (arith, p .from, p .to)
-
+-- task i, from 1, at time t: the task's number, the time, the line and the state are in their ranges
+pub record Called (r : Record) (i t : ℕ) : Type 0 where
+  pub none : taskTests r i t ≡ 0
+  pub from : 0 < i
+  pub here : i - 1 < r .plan .count
   pub below : i - 1 < tasksLimit
-  below = task-below r kept (i - 1) here
-
-  -- its period
+  pub time : t ≤ clockLimit
+  pub held : Held r
   pub period : lineAt r (i - 1) .period .0 ≤ periodLimit
-  period = period-small (r .plan) (kept .plan) (i - 1) here
-
-  -- its state
   pub state : Facts (lineAt r (i - 1)) (stateAt r (i - 1))
-  state = facts (lineAt r (i - 1)) (stateAt r (i - 1)) (state-sound r kept (i - 1) here)
+  pub due : deadlineOf (stateAt r (i - 1)) ≤ clockLimit + periodLimit
 
-  -- a release that its own tests let pass
+pub called : {r : Record} {i t : ℕ} → taskTests r i t ≡ 0 → Called r i t
+called {r} {i} {t} e =
+    let p = task-passed r i t e in
+    let k = held r (p .sound) in
+    let h : i - 1 < r .plan .count = omega (arith, p .from, p .to) in
+    record {
+      none = e;
+      from = p .from;
+      here = h;
+      below = task-below r k (i - 1) h;
+      time = p .limit;
+      held = k;
+      period = period-small (r .plan) (k .plan) (i - 1) h;
+      state = facts (lineAt r (i - 1)) (stateAt r (i - 1)) (state-sound r k (i - 1) h);
+      due = due-small r k (i - 1) h;
+    }
+
+module _ {r : Record} {i t : ℕ} (c : Called r i t) where
+  -- a release that its own tests let pass can be taken
   pub can-release : releaseTests (lineAt r (i - 1)) (stateAt r (i - 1)) t ≡ 0 → Releasable (lineAt r (i - 1)) (stateAt r (i - 1)) t
   can-release e =
-      releasable (lineAt r (i - 1)) (stateAt r (i - 1)) t e state
-      (weight-small (r .plan) (kept .plan) (i - 1) here) (shares-sum (r .plan) (kept .plan) (i - 1) here) (p .limit) period
+      releasable (lineAt r (i - 1)) (stateAt r (i - 1)) t e (c .state)
+      (weight-small (r .plan) (c .held .plan) (i - 1) (c .here)) (shares-sum (r .plan) (c .held .plan) (i - 1) (c .here)) (c .time) (c .period)
 
-  -- the deadline of its oldest run
-  pub oldest-small : deadlineOf (stateAt r (i - 1)) ≤ clockLimit + periodLimit
-  oldest-small = due-small r kept (i - 1) here
+  -- and a finish
+  pub can-finish : finishTests (stateAt r (i - 1)) ≡ 0 → 0 < stateAt r (i - 1) .live
+  can-finish = has-run (stateAt r (i - 1))
+
+-- a look at core k compares task i, from 0
+pub can-compare : {r : Record} {k t : ℕ} → Passed r (r .plan .cores) k t → (i : ℕ) → i < tasksLimit
+    → (0 < k) × (k ≤ coresLimit) × (waits (stateAt r i) k ≡ true → deadlineOf (stateAt r i) ≤ clockLimit + periodLimit)
+can-compare {r} {k} p i h =
+    let s = held r (p .sound) in
+    (p .from, omega (arith, p .to, cores-few (r .plan) (s .plan)), waits-due r s i k h)

@@ -20,7 +20,7 @@ use Rattle.dispatch.specs.Look.{bestOf, choiceFor, choiceOf, lookOf}
 use Rattle.dispatch.specs.Shape.{Good}
 use Rattle.dispatch.specs.Choice.{deadlineAt, keyAt, UpperOn, LowerOn, FixedOn, Least, None, First, Answer, Chosen, as-upper, as-lower, as-fixed}
 use Rattle.dispatch.proofs.Held.{held}
-use Rattle.dispatch.proofs.Answers.{look-choice}
+use Rattle.dispatch.proofs.Answers.{look-taken}
 use Rattle.soundness.proofs.SoundKept.{sound-kept}
 use Rattle.dispatch.proofs.Search.{Found, found}
 use Rattle.dispatch.proofs.Waiting.{Keyed, upper-key, lower-key, fixed-key, key-upper, key-lower, key-fixed, waits-in, waits-keyed}
@@ -104,7 +104,7 @@ module _ (r : Record) (g : Good r) (k : ℕ) where
 
   -- and so is an accepted look's
   pub look-first : (t : ℕ) → lookRefusal r k t ≡ 0 → Chosen r k (lookOf r k t .choice)
-  look-first t e = rw (look-choice r k t e) choice-first
+  look-first t e = rw (look-taken r k t e) choice-first
 
   -- a task's row in the table
   row-at : (i : ℕ) → getD (sharesTable (r .plan)) i [] ≡ rowOf (lineAt r i)

@@ -32,9 +32,9 @@ module _ (b : Best) (i : ℕ) (ln : Line) (st : State) (k : ℕ) where
   better-kept e n q t = rw (e, sym (ap (λ (x : ℕ). eqb (b .task) 0 || ltb x (b .key)) q) ∙ t)
 
 -- one task more
-pub best-more : (r : Record) (k n : ℕ) (b x : Best) → b ≡ bestOf r k n → x ≡ betterTask b (n + 1) (lineAt r n) (stateAt r n) k → x ≡ bestOf r k (n + 1)
+pub best-more : (r : Record) (k n : ℕ) {b x : Best} → b ≡ bestOf r k n → x ≡ betterTask b (n + 1) (lineAt r n) (stateAt r n) k → x ≡ bestOf r k (n + 1)
 unfolding bestOf
-best-more r k n b x e q = rw (add-one n) (rw (add-one n) at (q ∙ ap (λ (y : Best). betterTask y (n + 1) (lineAt r n) (stateAt r n) k) e))
+best-more r k n e q = rw (add-one n) (rw (add-one n) at (q ∙ ap (λ (y : Best). betterTask y (n + 1) (lineAt r n) (stateAt r n) k) e))
 
 better-below : (b : Best) (i : ℕ) (ln : Line) (st : State) (k : ℕ) → b .task ≤ i → betterTask b i ln st k .task ≤ i
 better-below b i ln st k h =
@@ -48,7 +48,7 @@ unfolding bestOf
 best-below r k zero = omega arith
 best-below r k (suc n) = better-below (bestOf r k n) (suc n) (lineAt r n) (stateAt r n) k (omega (arith, best-below r k n))
 
-module _ (r : Record) (k : ℕ) (b : Best) (e : b ≡ bestOf r k tasksLimit) where
+module _ (r : Record) (k : ℕ) {b : Best} (e : b ≡ bestOf r k tasksLimit) where
   pub best-task : b .task ≤ tasksLimit
   best-task = omega (arith, ap (λ (x : Best). x .task) e, best-below r k tasksLimit)
 
@@ -58,6 +58,6 @@ module _ (r : Record) (k : ℕ) (b : Best) (e : b ≡ bestOf r k tasksLimit) whe
   choice-idle z = rw (← e, eq-eqb (b .task) 0 z)
 
   -- the choice that the best task is
-  pub choice-by : (c : Choice) → c ≡ choiceBy b (deadlineOf (stateAt r (b .task - 1))) → c ≡ choiceOf r k
+  pub choice-by : {c : Choice} → c ≡ choiceBy b (deadlineOf (stateAt r (b .task - 1))) → c ≡ choiceOf r k
   unfolding choiceOf choiceFor
-  choice-by c q = q ∙ ap (λ (x : Best). choiceBy x (deadlineOf (stateAt r (x .task - 1)))) e
+  choice-by q = q ∙ ap (λ (x : Best). choiceBy x (deadlineOf (stateAt r (x .task - 1)))) e
