@@ -1,4 +1,4 @@
-use Rattle.dispatch.proofs.Called.{Called, called, can-finish}
+use Rattle.dispatch.proofs.Called.{Called, called}
 use Rattle.dispatch.proofs.Answers.{finish-first, finish-own, finish-refused, finish-taken}
 use Rattle.dispatch.specs.Record.{stateAt}
 use Rattle.dispatch.specs.Refusals.{taskTests, finishRefusal}
@@ -7,7 +7,7 @@ use Rattle.task_state.specs.Key.{deadlineOf}
 use Rattle.arith.proofs.Signed.{pos-fits, sub-fits, sub-is}
 use native.Mathlib.Omega.{arith}
 use mathlib.Core.Path.{_≡_, sym, _∙_}
-use Prim.Native.Nat.{ℕ, _-_, _^_, _<_}
+use Prim.Native.Nat.{_-_, _^_, _<_}
 use borrow.Author.Needs.{needs}
 use Rattle.dispatch.proofs.Record.finish.Statement.{statement}
 use Rattle.dispatch.proofs.Record.finish.Tie as tie
@@ -18,7 +18,7 @@ sound-requires c κs = search needs
 shared-tests-requires : tie.Need-shared-tests-requires
 shared-tests-requires c κs = search needs
 
--- where the call begins, where it has passed the shared tests, where it has passed its own, and the end of the last
+-- the places where the call begins, where it has passed the tests of every call, and where it has passed its own
 abbrev start : tie.After-shared-tests → tie.Start
 start c = c .before .before .before
 
@@ -72,7 +72,7 @@ sub-late : tie.Need-sub-late
 sub-late c = sub-fits _ _ (small (taken c) .0) (small (taken c) .1)
 
 without-run-requires : tie.Need-without-run-requires
-without-run-requires c κs = can-finish (known (passed (taken c .before))) (sym (taken c .before .finish-tests .ensures) ∙ taken c .if2 .taken)
+without-run-requires c κs = known (passed (taken c .before)) .can-finish (sym (taken c .before .finish-tests .ensures) ∙ taken c .if2 .taken)
 
 mul-after : tie.Need-mul-after
 mul-after c = omega (arith, known (passed (taken (c .before) .before)) .below)

@@ -1,4 +1,4 @@
-use Rattle.dispatch.proofs.Called.{Called, called, can-release}
+use Rattle.dispatch.proofs.Called.{Called, called}
 use Rattle.dispatch.proofs.Answers.{release-first, release-own, release-refused, release-taken}
 use Rattle.dispatch.specs.Refusals.{taskTests, releaseRefusal}
 use Rattle.dispatch.specs.Release.{takeRelease, refuseRelease}
@@ -15,15 +15,15 @@ sound-requires c κs = search needs
 shared-tests-requires : tie.Need-shared-tests-requires
 shared-tests-requires c κs = search needs
 
--- where the call begins, where it has passed the shared tests, and where it is tested as a release
+-- the places where the call begins, where it has passed the tests of every call, and where it has passed its own
 abbrev start : tie.After-shared-tests → tie.Start
 start c = c .before .before .before
 
 abbrev passed : tie.After-release-tests → tie.Then1
 passed c = c .before .before .before .before
 
-abbrev tested : tie.After-deadline → tie.After-release-tests
-tested c = c .before .before .before .before
+abbrev taken : tie.After-deadline → tie.Then2
+taken c = c .before .before .before
 
 -- what was tested first
 first : (c : tie.After-shared-tests) → let s = start c .args in c .shared-tests .result ≡ taskTests (s .t1) (s .task) (s .time .0)
@@ -56,23 +56,24 @@ element-copy-out-state : tie.Need-element-copy-out-state
 element-copy-out-state c = omega (arith, known (c .before .before) .below)
 
 release-tests-requires : tie.Need-release-tests-requires
-release-tests-requires c κs = let k = known (c .before .before .before) in (k .state .last, k .period)
+release-tests-requires c κs = let k = known (c .before .before .before) in (k .last, k .period)
 
 with-run-requires : tie.Need-with-run-requires
-with-run-requires c κs = can-release (known (passed (c .before))) (sym (c .before .release-tests .ensures) ∙ c .if2 .taken)
+with-run-requires c κs = known (passed (c .before)) .can-release (sym (c .before .release-tests .ensures) ∙ c .if2 .taken)
 
 mul-after : tie.Need-mul-after
-mul-after c = omega (arith, known (passed (tested c)) .below)
+mul-after c = omega (arith, known (passed (taken c .before)) .below)
 
 element-set-from-after : tie.Need-element-set-from-after
-element-set-from-after c = omega (arith, known (passed (tested c)) .below)
+element-set-from-after c = omega (arith, known (passed (taken c .before)) .below)
 
 returns : tie.Need-returns
 unfolding takeRelease takenRun
 returns c =
-    let s = start (passed (tested c) .before) .args in
-    let e = c .before .before .before .if2 .taken in
-    rw (e, c .before .before .with-run .ensures) (sym (release-taken (s .t1) (s .task) (s .time .0) (sym (own (tested c)) ∙ e)))
+    let k = taken c in
+    let s = start (passed (k .before) .before) .args in
+    rw (k .if2 .taken, c .before .before .with-run .ensures)
+    (sym (release-taken (s .t1) (s .task) (s .time .0) (sym (own (k .before)) ∙ k .if2 .taken)))
 
 returns-2 : tie.Need-returns-2
 unfolding refuseRelease
