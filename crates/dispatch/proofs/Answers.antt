@@ -1,36 +1,26 @@
 -- A call is refused with the first number that applies, and hands back the same record; or it is taken.
-use Prim.Native.Nat.{ℕ, _-_}
+use Prim.Native.Nat.{ℕ}
 use mathlib.Core.Path.{_≡_, sym}
 use lib.Dec.{eqb}
 use borrow.Author.Tests.{eqb-true, eq-eqb, ne-eqb}
 use Rattle.lists.proofs.Tests.{by-cases}
-use Rattle.task_state.specs.Tests.{releaseTests, finishTests}
 use Rattle.dispatch.specs.declared.Record.{Record}
 use Rattle.dispatch.specs.declared.look.Choice.the-variants.{Idle}
-use Rattle.dispatch.specs.Record.{lineAt, stateAt}
 use Rattle.dispatch.specs.Refusals.{taskTests, lookRefusal, releaseRefusal, finishRefusal}
 use Rattle.dispatch.specs.Release.{takeRelease, refuseRelease, releaseOf}
 use Rattle.dispatch.specs.Finish.{takeFinish, refuseFinish, finishOf}
 use Rattle.dispatch.specs.Look.{choiceOf, atTime, lookOf}
 
 module _ (r : Record) (i t : ℕ) where
-  -- a release's number: that of the tests of every call for a task, or of its own
+  -- a number of the tests of every call for a task is a release's
   pub release-first : {n : ℕ} → n ≡ taskTests r i t → (n ≡ 0 → ⊥) → n ≡ releaseRefusal r i t
   unfolding releaseRefusal
   release-first {n} q z = rw (← q, ne-eqb n 0 z)
 
-  pub release-own : {n : ℕ} → taskTests r i t ≡ 0 → n ≡ releaseTests (lineAt r (i - 1)) (stateAt r (i - 1)) t → n ≡ releaseRefusal r i t
-  unfolding releaseRefusal
-  release-own e q = rw (eq-eqb (taskTests r i t) 0 e) q
-
-  -- a finish's
+  -- and a finish's
   pub finish-first : {n : ℕ} → n ≡ taskTests r i t → (n ≡ 0 → ⊥) → n ≡ finishRefusal r i t
   unfolding finishRefusal
   finish-first {n} q z = rw (← q, ne-eqb n 0 z)
-
-  pub finish-own : {n : ℕ} → taskTests r i t ≡ 0 → n ≡ finishTests (stateAt r (i - 1)) → n ≡ finishRefusal r i t
-  unfolding finishRefusal
-  finish-own e q = rw (eq-eqb (taskTests r i t) 0 e) q
 
   -- a refused release, an accepted one, and the number that it answers
   pub release-refused : {n : ℕ} → n ≡ releaseRefusal r i t → (n ≡ 0 → ⊥) → releaseOf r i t ≡ refuseRelease n r

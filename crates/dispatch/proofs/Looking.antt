@@ -1,7 +1,7 @@
 -- The best task for a core, and the choice that it is.
 use Prim.Native.Nat.{ℕ, zero, suc, _+_, _-_, _≤_}
-use mathlib.Core.Path.{_≡_, sym, ap, _∙_}
-use mathlib.Core.Bool.{true, false, _&&_, _||_}
+use mathlib.Core.Path.{_≡_, ap, _∙_}
+use mathlib.Core.Bool.{_&&_, _||_}
 use native.Mathlib.Numerals.{add-one}
 use native.Mathlib.Omega.{arith}
 use lib.Dec.{ltb, eqb}
@@ -18,23 +18,10 @@ use Rattle.dispatch.specs.declared.look.Choice.the-variants.{Idle}
 use Rattle.dispatch.specs.Record.{lineAt, stateAt}
 use Rattle.dispatch.specs.Look.{betterTask, bestOf, choiceBy, choiceFor, choiceOf}
 
-module _ (b : Best) (i : ℕ) (ln : Line) (st : State) (k : ℕ) where
-  -- a task that does not wait on the core changes nothing
-  pub better-not : waits st k ≡ false → b ≡ betterTask b i ln st k
-  better-not e = rw e
-
-  -- one that waits is the best so far, or it is not
-  pub better-here : waits st k ≡ true → (n : ℕ) → n ≡ keyOf ln st k → (eqb (b .task) 0 || ltb n (b .key)) ≡ true → record { task = i; key = n } ≡ betterTask b i ln st k
-  better-here e n q t =
-      rw (e, sym (ap (λ (x : ℕ). eqb (b .task) 0 || ltb x (b .key)) q) ∙ t) (ap (λ (x : ℕ). record { task = i; key = x }) q)
-
-  pub better-kept : waits st k ≡ true → (n : ℕ) → n ≡ keyOf ln st k → (eqb (b .task) 0 || ltb n (b .key)) ≡ false → b ≡ betterTask b i ln st k
-  better-kept e n q t = rw (e, sym (ap (λ (x : ℕ). eqb (b .task) 0 || ltb x (b .key)) q) ∙ t)
-
 -- one task more
 pub best-more : (r : Record) (k n : ℕ) {b x : Best} → b ≡ bestOf r k n → x ≡ betterTask b (n + 1) (lineAt r n) (stateAt r n) k → x ≡ bestOf r k (n + 1)
 unfolding bestOf
-best-more r k n e q = rw (add-one n) (rw (add-one n) at (q ∙ ap (λ (y : Best). betterTask y (n + 1) (lineAt r n) (stateAt r n) k) e))
+best-more r k n e q = rw (add-one n, ← e) (rw (add-one n) at q)
 
 better-below : (b : Best) (i : ℕ) (ln : Line) (st : State) (k : ℕ) → b .task ≤ i → betterTask b i ln st k .task ≤ i
 better-below b i ln st k h =

@@ -1,5 +1,5 @@
 use Rattle.dispatch.proofs.Called.{Called, called}
-use Rattle.dispatch.proofs.Answers.{finish-first, finish-own, finish-refused, finish-taken}
+use Rattle.dispatch.proofs.Answers.{finish-first, finish-refused, finish-taken}
 use Rattle.dispatch.specs.Record.{stateAt}
 use Rattle.dispatch.specs.Refusals.{taskTests, finishRefusal}
 use Rattle.dispatch.specs.Finish.{takeFinish, refuseFinish}
@@ -39,9 +39,7 @@ known c = called (sym (first (c .before)) ∙ c .if1 .taken)
 
 -- the finish's number
 own : (c : tie.After-finish-tests) → let s = start (passed c .before) .args in c .finish-tests .result ≡ finishRefusal (s .t1) (s .task) (s .time .0)
-own c =
-    let s = start (passed c .before) .args in
-    finish-own (s .t1) (s .task) (s .time .0) (known (passed c) .none) (c .finish-tests .ensures)
+own c = c .finish-tests .ensures ∙ sym (known (passed c) .finish-number)
 
 sub-i : tie.Need-sub-i
 sub-i c = omega (arith, known c .from)

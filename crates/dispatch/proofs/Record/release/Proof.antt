@@ -1,5 +1,5 @@
 use Rattle.dispatch.proofs.Called.{Called, called}
-use Rattle.dispatch.proofs.Answers.{release-first, release-own, release-refused, release-taken}
+use Rattle.dispatch.proofs.Answers.{release-first, release-refused, release-taken}
 use Rattle.dispatch.specs.Refusals.{taskTests, releaseRefusal}
 use Rattle.dispatch.specs.Release.{takeRelease, refuseRelease}
 use Rattle.task_state.specs.Runs.{takenRun}
@@ -36,9 +36,7 @@ known c = called (sym (first (c .before)) ∙ c .if1 .taken)
 
 -- the release's number
 own : (c : tie.After-release-tests) → let s = start (passed c .before) .args in c .release-tests .result ≡ releaseRefusal (s .t1) (s .task) (s .time .0)
-own c =
-    let s = start (passed c .before) .args in
-    release-own (s .t1) (s .task) (s .time .0) (known (passed c) .none) (c .release-tests .ensures)
+own c = c .release-tests .ensures ∙ sym (known (passed c) .release-number)
 
 sub-i : tie.Need-sub-i
 sub-i c = omega (arith, known c .from)
