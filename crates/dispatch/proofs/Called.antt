@@ -1,6 +1,6 @@
--- What a call for a task may rely on once it has passed 15, 7, 12 and 8.
-use Prim.Native.Nat.{ℕ, _+_, _-_, _≤_, _<_}
-use mathlib.Core.Path.{_≡_}
+-- What a call may rely on once it has passed 15, 7 or 13, 12 and 8.
+use Prim.Native.Nat.{ℕ, _+_, _-_, _^_, _≤_, _<_}
+use mathlib.Core.Path.{_≡_, sym, _∙_}
 use mathlib.Core.Bool.{true}
 use native.Mathlib.Omega.{arith}
 use borrow.Author.Tests.{eq-eqb}
@@ -13,27 +13,26 @@ use Rattle.task_state.proofs.Facts.{facts}
 use Rattle.task_state.proofs.Passed.{releasable, has-run}
 use Rattle.dispatch.specs.declared.Record.{Record}
 use Rattle.dispatch.specs.Record.{lineAt, stateAt}
-use Rattle.dispatch.specs.Refusals.{taskTests, releaseRefusal, finishRefusal}
+use Rattle.dispatch.specs.Refusals.{taskTests, lookRefusal, releaseRefusal, finishRefusal}
 use Rattle.dispatch.proofs.Held.{held, task-below, state-sound, due-small, waits-due}
-use Rattle.dispatch.proofs.Passed.{Passed, task-passed}
+use Rattle.dispatch.proofs.Passed.{task-passed, look-passed}
 
--- task i, from 1, the time, the task's line and its state are in their ranges; the call's own tests decide, and a call that they let pass can be taken
-pub record Called (r : Record) (i t : ℕ) : Type 0 where
+-- task i, from 1, at time t: the numbers are in their ranges, the call's own tests decide, and an accepted call can be taken
+pub record TaskCall (r : Record) (i t : ℕ) : Type 0 where
   pub from : 0 < i
   pub below : i - 1 < tasksLimit
-  pub time : t ≤ clockLimit
   pub period : lineAt r (i - 1) .period .0 ≤ periodLimit
   pub last : stateAt r (i - 1) .last .0 ≤ clockLimit
-  pub due : deadlineOf (stateAt r (i - 1)) ≤ clockLimit + periodLimit
+  pub time-fits : t < 2 ^ 63
+  pub due-fits : deadlineOf (stateAt r (i - 1)) < 2 ^ 63
   pub release-number : releaseRefusal r i t ≡ releaseTests (lineAt r (i - 1)) (stateAt r (i - 1)) t
   pub finish-number : finishRefusal r i t ≡ finishTests (stateAt r (i - 1))
-  pub can-release : releaseTests (lineAt r (i - 1)) (stateAt r (i - 1)) t ≡ 0 → Releasable (lineAt r (i - 1)) (stateAt r (i - 1)) t
-  pub can-finish : finishTests (stateAt r (i - 1)) ≡ 0 → 0 < stateAt r (i - 1) .live
+  pub can-release : releaseRefusal r i t ≡ 0 → Releasable (lineAt r (i - 1)) (stateAt r (i - 1)) t
+  pub can-finish : finishRefusal r i t ≡ 0 → 0 < stateAt r (i - 1) .live
 
--- the four tests say it
-pub called : {r : Record} {i t : ℕ} → taskTests r i t ≡ 0 → Called r i t
+pub task-call : {r : Record} {i t : ℕ} → taskTests r i t ≡ 0 → TaskCall r i t
 unfolding releaseRefusal finishRefusal
-called {r} {i} {t} e =
+task-call {r} {i} {t} e =
     let p = task-passed r i t e in
     let k = held r (p .sound) in
     let ln = lineAt r (i - 1) in
@@ -43,22 +42,33 @@ called {r} {i} {t} e =
     let period = period-small (r .plan) (k .plan) (i - 1) h in
     let weight = weight-small (r .plan) (k .plan) (i - 1) h in
     let shares = shares-sum (r .plan) (k .plan) (i - 1) h in
+    let release : releaseRefusal r i t ≡ releaseTests ln st t = rw (eq-eqb (taskTests r i t) 0 e) in
+    let finish : finishRefusal r i t ≡ finishTests st = rw (eq-eqb (taskTests r i t) 0 e) in
     record {
       from = p .from;
       below = task-below r k (i - 1) h;
-      time = p .limit;
       period = period;
       last = f .last;
-      due = due-small r k (i - 1) h;
-      release-number = rw (eq-eqb (taskTests r i t) 0 e);
-      finish-number = rw (eq-eqb (taskTests r i t) 0 e);
-      can-release = λ own. releasable ln st t own f weight shares (p .limit) period;
-      can-finish = λ own. has-run st own;
+      time-fits = omega (arith, p .limit);
+      due-fits = omega (arith, due-small r k (i - 1) h);
+      release-number = release;
+      finish-number = finish;
+      can-release = λ z. releasable ln st t (sym release ∙ z) f weight shares (p .limit) period;
+      can-finish = λ z. has-run st (sym finish ∙ z);
     }
 
--- a look at core k compares task i, from 0
-pub can-compare : {r : Record} {k t : ℕ} → Passed r (r .plan .cores) k t → (i : ℕ) → i < tasksLimit
-    → (0 < k) × (k ≤ coresLimit) × (waits (stateAt r i) k ≡ true → deadlineOf (stateAt r i) ≤ clockLimit + periodLimit)
-can-compare {r} {k} p i h =
+-- core k, from 1: it is in its range, and a task that waits there has a deadline in its range
+pub record CoreCall (r : Record) (k : ℕ) : Type 0 where
+  pub from : 0 < k
+  pub few : k ≤ coresLimit
+  pub due : (i : ℕ) → i < tasksLimit → waits (stateAt r i) k ≡ true → deadlineOf (stateAt r i) ≤ clockLimit + periodLimit
+
+pub core-call : {r : Record} {k : ℕ} (t : ℕ) → lookRefusal r k t ≡ 0 → CoreCall r k
+core-call {r} {k} t e =
+    let p = look-passed r k t e in
     let s = held r (p .sound) in
-    (p .from, omega (arith, p .to, cores-few (r .plan) (s .plan)), waits-due r s i k h)
+    record {
+      from = p .from;
+      few = omega (arith, p .to, cores-few (r .plan) (s .plan));
+      due = λ i h w. waits-due r s i k h w;
+    }

@@ -1,13 +1,10 @@
-use Rattle.dispatch.proofs.Called.{Called, called}
+use Rattle.dispatch.proofs.Called.{TaskCall, task-call}
 use Rattle.dispatch.proofs.Answers.{finish-first, finish-refused, finish-taken}
-use Rattle.dispatch.specs.Record.{stateAt}
 use Rattle.dispatch.specs.Refusals.{taskTests, finishRefusal}
 use Rattle.dispatch.specs.Finish.{takeFinish, refuseFinish}
-use Rattle.task_state.specs.Key.{deadlineOf}
 use Rattle.arith.proofs.Signed.{pos-fits, sub-fits, sub-is}
 use native.Mathlib.Omega.{arith}
 use mathlib.Core.Path.{_≡_, sym, _∙_}
-use Prim.Native.Nat.{_-_, _^_, _<_}
 use borrow.Author.Needs.{needs}
 use Rattle.dispatch.proofs.Record.finish.Statement.{statement}
 use Rattle.dispatch.proofs.Record.finish.Tie as tie
@@ -19,8 +16,8 @@ shared-tests-requires : tie.Need-shared-tests-requires
 shared-tests-requires c κs = search needs
 
 -- the places where the call begins, where it has passed the tests of every call, and where it has passed its own
-abbrev start : tie.After-shared-tests → tie.Start
-start c = c .before .before .before
+abbrev start : tie.Then1 → tie.Start
+start c = c .before .before .before .before
 
 abbrev passed : tie.After-finish-tests → tie.Then1
 passed c = c .before .before
@@ -29,17 +26,21 @@ abbrev taken : tie.After-struct-known2 → tie.Then2
 taken c = c .before .before .before
 
 -- what was tested first
-first : (c : tie.After-shared-tests) → let s = start c .args in c .shared-tests .result ≡ taskTests (s .t1) (s .task) (s .time .0)
+first : (c : tie.After-shared-tests) → let s = c .before .before .before .args in c .shared-tests .result ≡ taskTests (s .t1) (s .task) (s .time .0)
 unfolding taskTests
 first c = rw (c .before .sound .ensures) at (c .shared-tests .ensures)
 
 -- what is known after that
-known : (c : tie.Then1) → let s = start (c .before) .args in Called (s .t1) (s .task) (s .time .0)
-known c = called (sym (first (c .before)) ∙ c .if1 .taken)
+known : (c : tie.Then1) → let s = start c .args in TaskCall (s .t1) (s .task) (s .time .0)
+known c = task-call (sym (first (c .before)) ∙ c .if1 .taken)
 
 -- the finish's number
-own : (c : tie.After-finish-tests) → let s = start (passed c .before) .args in c .finish-tests .result ≡ finishRefusal (s .t1) (s .task) (s .time .0)
+own : (c : tie.After-finish-tests) → let s = start (passed c) .args in c .finish-tests .result ≡ finishRefusal (s .t1) (s .task) (s .time .0)
 own c = c .finish-tests .ensures ∙ sym (known (passed c) .finish-number)
+
+-- none applies
+accepted : (c : tie.Then2) → let s = start (passed (c .before)) .args in finishRefusal (s .t1) (s .task) (s .time .0) ≡ 0
+accepted c = sym (own (c .before)) ∙ c .if2 .taken
 
 sub-i : tie.Need-sub-i
 sub-i c = omega (arith, known c .from)
@@ -56,21 +57,17 @@ finish-tests-requires c κs = search needs
 element-copy-out-oldest : tie.Need-element-copy-out-oldest
 element-copy-out-oldest c = search needs
 
--- the time and the deadline of the run that is ended are far below 2^63
-small : (c : tie.Then2) → let s = start (passed (c .before) .before) .args in (s .time .0 < 2 ^ 63) × (deadlineOf (stateAt (s .t1) (s .task - 1)) < 2 ^ 63)
-small c = let k = known (passed (c .before)) in (omega (arith, k .time), omega (arith, k .due))
-
 cast-late : tie.Need-cast-late
-cast-late c = pos-fits _ (small (c .before .before) .0)
+cast-late c = pos-fits _ (known (passed (c .before .before .before)) .time-fits)
 
 cast-late-2 : tie.Need-cast-late-2
-cast-late-2 c = pos-fits _ (small (taken c) .1)
+cast-late-2 c = pos-fits _ (known (passed (taken c .before)) .due-fits)
 
 sub-late : tie.Need-sub-late
-sub-late c = sub-fits _ _ (small (taken c) .0) (small (taken c) .1)
+sub-late c = let k = known (passed (taken c .before)) in sub-fits _ _ (k .time-fits) (k .due-fits)
 
 without-run-requires : tie.Need-without-run-requires
-without-run-requires c κs = known (passed (taken c .before)) .can-finish (sym (taken c .before .finish-tests .ensures) ∙ taken c .if2 .taken)
+without-run-requires c κs = known (passed (taken c .before)) .can-finish (accepted (taken c))
 
 mul-after : tie.Need-mul-after
 mul-after c = omega (arith, known (passed (taken (c .before) .before)) .below)
@@ -82,20 +79,21 @@ returns : tie.Need-returns
 unfolding takeFinish
 returns c =
     let k = taken (c .before) in
-    let s = start (passed (k .before) .before) .args in
-    rw (k .if2 .taken, sub-is _ _ (small k .0) (small k .1), c .without-run .ensures)
-    (sym (finish-taken (s .t1) (s .task) (s .time .0) (sym (own (k .before)) ∙ k .if2 .taken)))
+    let s = start (passed (k .before)) .args in
+    let p = known (passed (k .before)) in
+    rw (k .if2 .taken, sub-is _ _ (p .time-fits) (p .due-fits), c .without-run .ensures)
+    (sym (finish-taken (s .t1) (s .task) (s .time .0) (accepted k)))
 
 returns-2 : tie.Need-returns-2
 unfolding refuseFinish
 returns-2 c =
-    let s = start (passed (c .before) .before) .args in
+    let s = start (passed (c .before)) .args in
     sym (finish-refused (s .t1) (s .task) (s .time .0) (own (c .before)) (c .if2 .left))
 
 returns-3 : tie.Need-returns-3
 unfolding refuseFinish
 returns-3 c =
-    let s = start (c .before) .args in
+    let s = c .before .before .before .before .args in
     let n = finish-first (s .t1) (s .task) (s .time .0) (first (c .before)) (c .if1 .left) in
     sym (finish-refused (s .t1) (s .task) (s .time .0) n (c .if1 .left))
 

@@ -1,7 +1,6 @@
 use Rattle.dispatch.proofs.Looking.{best-more, best-task, choice-idle, choice-by}
 use Rattle.dispatch.proofs.Answers.{look-refused, look-taken}
-use Rattle.dispatch.proofs.Passed.{Passed, look-passed}
-use Rattle.dispatch.proofs.Called.{can-compare}
+use Rattle.dispatch.proofs.Called.{CoreCall, core-call}
 use Rattle.dispatch.specs.Look.{bestOf, choiceOf}
 use Rattle.dispatch.specs.Refusals.{lookRefusal}
 use Rattle.units.specs.Limits.{tasksLimit}
@@ -25,21 +24,25 @@ sound-requires c κs = search needs
 shared-tests-requires : tie.Need-shared-tests-requires Inv-loop μ-loop
 shared-tests-requires c κs = search needs
 
--- where the call begins, where it has passed its tests, and where the loop is left
-abbrev start : tie.After-shared-tests Inv-loop μ-loop → tie.Start Inv-loop μ-loop
-start c = c .before .before .before
+-- the places where the call begins, and where it has passed its tests
+abbrev start : tie.Then1 Inv-loop μ-loop → tie.Start Inv-loop μ-loop
+start c = c .before .before .before .before
 
 abbrev passed : tie.At-loop Inv-loop μ-loop → tie.Then1 Inv-loop μ-loop
 passed c = c .before .before
 
--- what was tested
-first : (c : tie.After-shared-tests Inv-loop μ-loop) → let s = start c .args in c .shared-tests .result ≡ lookRefusal (s .t1) (s .core) (s .time .0)
+-- the look's number
+own : (c : tie.After-shared-tests Inv-loop μ-loop) → let s = c .before .before .before .args in c .shared-tests .result ≡ lookRefusal (s .t1) (s .core) (s .time .0)
 unfolding lookRefusal
-first c = rw (c .before .sound .ensures) at (c .shared-tests .ensures)
+own c = rw (c .before .sound .ensures) at (c .shared-tests .ensures)
 
--- what is known after that
-known : (c : tie.Then1 Inv-loop μ-loop) → let s = start (c .before) .args in Passed (s .t1) (s .t1 .plan .cores) (s .core) (s .time .0)
-known c = let s = start (c .before) .args in look-passed (s .t1) (s .core) (s .time .0) (sym (first (c .before)) ∙ c .if1 .taken)
+-- none applies
+accepted : (c : tie.Then1 Inv-loop μ-loop) → let s = start c .args in lookRefusal (s .t1) (s .core) (s .time .0) ≡ 0
+accepted c = sym (own (c .before)) ∙ c .if1 .taken
+
+-- what is known then
+known : (c : tie.Then1 Inv-loop μ-loop) → let s = start c .args in CoreCall (s .t1) (s .core)
+known c = core-call (start c .args .time .0) (accepted c)
 
 loop-holds : tie.Need-loop-holds Inv-loop μ-loop
 unfolding bestOf
@@ -63,7 +66,8 @@ add-i c = omega arith
 better-requires : tie.Need-better-requires Inv-loop μ-loop
 better-requires c κs =
     let at = c .before .before .before in
-    can-compare (known (passed at)) (at .loop .i) (omega arith)
+    let k = known (passed at) in
+    (k .from, k .few, k .due (at .loop .i) (omega arith))
 
 loop-less : tie.Need-loop-less Inv-loop μ-loop
 loop-less c = omega arith
@@ -71,18 +75,18 @@ loop-less c = omega arith
 loop-again : tie.Need-loop-again Inv-loop μ-loop
 loop-again c =
     let at = c .before .before .before .before in
-    let s = start (passed at .before) .args in
+    let s = start (passed at) .args in
     (omega arith, best-more (s .t1) (s .core) (at .loop .i) (at .loop .inv .1) (c .better .ensures))
 
 -- the best of all tasks
-found : (c : tie.After-loop Inv-loop μ-loop) → let s = start (passed (c .before) .before) .args in c .before .loop .best ≡ bestOf (s .t1) (s .core) tasksLimit
+found : (c : tie.After-loop Inv-loop μ-loop) → let s = start (passed (c .before)) .args in c .before .loop .best ≡ bestOf (s .t1) (s .core) tasksLimit
 found c =
     let e : c .before .loop .i ≡ tasksLimit = omega arith in
     rw e at (c .before .loop .inv .1)
 
 -- is one of them
 found-below : (c : tie.After-loop Inv-loop μ-loop) → c .before .loop .best .task ≤ tasksLimit
-found-below c = let s = start (passed (c .before) .before) .args in best-task (s .t1) (s .core) (found c)
+found-below c = let s = start (passed (c .before)) .args in best-task (s .t1) (s .core) (found c)
 
 sub-at : tie.Need-sub-at Inv-loop μ-loop
 sub-at c = search needs
@@ -97,9 +101,9 @@ choice-requires : tie.Need-choice-requires Inv-loop μ-loop
 choice-requires c κs = search needs
 
 -- the choice, whichever way it came
-chosen : (c : tie.Joined2 Inv-loop μ-loop) → let s = start (passed (c .before .before .before) .before) .args in c .if2 .choice ≡ choiceOf (s .t1) (s .core)
+chosen : (c : tie.Joined2 Inv-loop μ-loop) → let s = start (passed (c .before .before .before)) .args in c .if2 .choice ≡ choiceOf (s .t1) (s .core)
 chosen c =
-    let s = start (passed (c .before .before .before) .before) .args in
+    let s = start (passed (c .before .before .before)) .args in
     let e = found (c .before .before) in
     ⊎-elim
     (λ t. t .4 ∙ choice-by (s .t1) (s .core) e (t .3 .ensures))
@@ -109,11 +113,13 @@ chosen c =
 returns : tie.Need-returns Inv-loop μ-loop
 returns c =
     let k = passed (c .before .before .before) in
-    let s = start (k .before) .args in
-    rw (k .if1 .taken, chosen c) (sym (look-taken (s .t1) (s .core) (s .time .0) (sym (first (k .before)) ∙ k .if1 .taken)))
+    let s = start k .args in
+    rw (k .if1 .taken, chosen c) (sym (look-taken (s .t1) (s .core) (s .time .0) (accepted k)))
 
 returns-2 : tie.Need-returns-2 Inv-loop μ-loop
-returns-2 c = let s = start (c .before) .args in sym (look-refused (s .t1) (s .core) (s .time .0) (first (c .before)) (c .if1 .left))
+returns-2 c =
+    let s = c .before .before .before .before .args in
+    sym (look-refused (s .t1) (s .core) (s .time .0) (own (c .before)) (c .if1 .left))
 
 pub look-spec : {M : Type 1} → statement M
 look-spec =

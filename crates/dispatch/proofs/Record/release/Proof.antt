@@ -1,4 +1,4 @@
-use Rattle.dispatch.proofs.Called.{Called, called}
+use Rattle.dispatch.proofs.Called.{TaskCall, task-call}
 use Rattle.dispatch.proofs.Answers.{release-first, release-refused, release-taken}
 use Rattle.dispatch.specs.Refusals.{taskTests, releaseRefusal}
 use Rattle.dispatch.specs.Release.{takeRelease, refuseRelease}
@@ -16,8 +16,8 @@ shared-tests-requires : tie.Need-shared-tests-requires
 shared-tests-requires c κs = search needs
 
 -- the places where the call begins, where it has passed the tests of every call, and where it has passed its own
-abbrev start : tie.After-shared-tests → tie.Start
-start c = c .before .before .before
+abbrev start : tie.Then1 → tie.Start
+start c = c .before .before .before .before
 
 abbrev passed : tie.After-release-tests → tie.Then1
 passed c = c .before .before .before .before
@@ -26,17 +26,21 @@ abbrev taken : tie.After-deadline → tie.Then2
 taken c = c .before .before .before
 
 -- what was tested first
-first : (c : tie.After-shared-tests) → let s = start c .args in c .shared-tests .result ≡ taskTests (s .t1) (s .task) (s .time .0)
+first : (c : tie.After-shared-tests) → let s = c .before .before .before .args in c .shared-tests .result ≡ taskTests (s .t1) (s .task) (s .time .0)
 unfolding taskTests
 first c = rw (c .before .sound .ensures) at (c .shared-tests .ensures)
 
 -- what is known after that
-known : (c : tie.Then1) → let s = start (c .before) .args in Called (s .t1) (s .task) (s .time .0)
-known c = called (sym (first (c .before)) ∙ c .if1 .taken)
+known : (c : tie.Then1) → let s = start c .args in TaskCall (s .t1) (s .task) (s .time .0)
+known c = task-call (sym (first (c .before)) ∙ c .if1 .taken)
 
 -- the release's number
-own : (c : tie.After-release-tests) → let s = start (passed c .before) .args in c .release-tests .result ≡ releaseRefusal (s .t1) (s .task) (s .time .0)
+own : (c : tie.After-release-tests) → let s = start (passed c) .args in c .release-tests .result ≡ releaseRefusal (s .t1) (s .task) (s .time .0)
 own c = c .release-tests .ensures ∙ sym (known (passed c) .release-number)
+
+-- none applies
+accepted : (c : tie.Then2) → let s = start (passed (c .before)) .args in releaseRefusal (s .t1) (s .task) (s .time .0) ≡ 0
+accepted c = sym (own (c .before)) ∙ c .if2 .taken
 
 sub-i : tie.Need-sub-i
 sub-i c = omega (arith, known c .from)
@@ -57,7 +61,7 @@ release-tests-requires : tie.Need-release-tests-requires
 release-tests-requires c κs = let k = known (c .before .before .before) in (k .last, k .period)
 
 with-run-requires : tie.Need-with-run-requires
-with-run-requires c κs = known (passed (c .before)) .can-release (sym (c .before .release-tests .ensures) ∙ c .if2 .taken)
+with-run-requires c κs = known (passed (c .before)) .can-release (accepted c)
 
 mul-after : tie.Need-mul-after
 mul-after c = omega (arith, known (passed (taken c .before)) .below)
@@ -69,20 +73,20 @@ returns : tie.Need-returns
 unfolding takeRelease takenRun
 returns c =
     let k = taken c in
-    let s = start (passed (k .before) .before) .args in
+    let s = start (passed (k .before)) .args in
     rw (k .if2 .taken, c .before .before .with-run .ensures)
-    (sym (release-taken (s .t1) (s .task) (s .time .0) (sym (own (k .before)) ∙ k .if2 .taken)))
+    (sym (release-taken (s .t1) (s .task) (s .time .0) (accepted k)))
 
 returns-2 : tie.Need-returns-2
 unfolding refuseRelease
 returns-2 c =
-    let s = start (passed (c .before) .before) .args in
+    let s = start (passed (c .before)) .args in
     sym (release-refused (s .t1) (s .task) (s .time .0) (own (c .before)) (c .if2 .left))
 
 returns-3 : tie.Need-returns-3
 unfolding refuseRelease
 returns-3 c =
-    let s = start (c .before) .args in
+    let s = c .before .before .before .before .args in
     let n = release-first (s .t1) (s .task) (s .time .0) (first (c .before)) (c .if1 .left) in
     sym (release-refused (s .t1) (s .task) (s .time .0) n (c .if1 .left))
 
