@@ -14,7 +14,8 @@ use Rattle.dispatch.specs.Finish.{takeFinish, refuseFinish}
 use Rattle.dispatch.specs.Shape.{Good}
 use Rattle.dispatch.specs.Calls.{Call, release, finish, look, timeOf, callRefusal, step, after}
 use Rattle.dispatch.proofs.Passed.{release-passed, finish-passed, look-passed}
-use Rattle.dispatch.proofs.Answers.{release-answer, finish-answer, look-answer, release-refused, finish-refused, look-refused, release-taken, finish-taken, look-taken}
+use Rattle.dispatch.proofs.Answers.{release-answer, release-refused, release-taken, finish-answer, finish-refused, finish-taken}
+use Rattle.dispatch.proofs.Answers.{look-answer, look-refused, look-taken}
 use Rattle.dispatch.proofs.Keeps.{release-good, finish-good, look-good}
 
 -- a call keeps a good record good

@@ -95,7 +95,8 @@ module _ (r : Record) (g : Good r) (k : ℕ) where
   chosen-by zero d f = inl (f, refl)
   chosen-by (suc j) d f =
       let c = f .1 in
-      inr (j, waits-in r (held r (g .sound)) j k (c .within) (c .waiting), least-first j c, answer-for j d (f .0) (waits-keyed r g k j (c .within) (c .waiting)))
+      let h = waits-in r (held r (g .sound)) j k (c .within) (c .waiting) in
+      inr (j, h, least-first j c, answer-for j d (f .0) (waits-keyed r g k j (c .within) (c .waiting)))
 
   -- the choice is the one that document 01 describes
   pub choice-first : Chosen r k (choiceOf r k)

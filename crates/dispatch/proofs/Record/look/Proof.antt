@@ -32,7 +32,8 @@ abbrev passed : tie.At-loop Inv-loop μ-loop → tie.Then1 Inv-loop μ-loop
 passed c = c .before .before
 
 -- the look's number
-own : (c : tie.After-shared-tests Inv-loop μ-loop) → let s = c .before .before .before .args in c .shared-tests .result ≡ lookRefusal (s .t1) (s .core) (s .time .0)
+own : (c : tie.After-shared-tests Inv-loop μ-loop) → let s = c .before .before .before .args in
+    c .shared-tests .result ≡ lookRefusal (s .t1) (s .core) (s .time .0)
 unfolding lookRefusal
 own c = rw (c .before .sound .ensures) at (c .shared-tests .ensures)
 
