@@ -1,6 +1,6 @@
 -- What a call may rely on once it has passed 15, 7 or 13, 12 and 8.
 use Prim.Native.Nat.{ℕ, _+_, _-_, _^_, _≤_, _<_}
-use mathlib.Core.Path.{_≡_, sym, _∙_}
+use mathlib.Core.Path.{_≡_}
 use mathlib.Core.Bool.{true}
 use native.Mathlib.Omega.{arith}
 use borrow.Author.Tests.{eq-eqb}
@@ -17,7 +17,7 @@ use Rattle.dispatch.specs.Refusals.{taskTests, lookRefusal, releaseRefus
 use Rattle.dispatch.proofs.Held.{held, task-below, state-sound, due-small, waits-due}
 use Rattle.dispatch.proofs.Passed.{task-passed, look-passed}
 
--- task i, from 1, at time t: the numbers are in their ranges, the call's own tests decide, and an accepted call can be taken
+-- task i, from 1, at time t: the numbers are in their ranges, the call's own tests decide, and a call that passes them can be taken
 pub record TaskCall (r : Record) (i t : ℕ) : Type 0 where
   pub from : 0 < i
   pub below : i - 1 < tasksLimit
@@ -27,8 +27,8 @@ pub record TaskCall (r : Record) (i t : ℕ) : Type 0 where
   pub due-fits : deadlineOf (stateAt r (i - 1)) < 2 ^ 63
   pub release-number : releaseRefusal r i t ≡ releaseTests (lineAt r (i - 1)) (stateAt r (i - 1)) t
   pub finish-number : finishRefusal r i t ≡ finishTests (stateAt r (i - 1))
-  pub can-release : releaseRefusal r i t ≡ 0 → Releasable (lineAt r (i - 1)) (stateAt r (i - 1)) t
-  pub can-finish : finishRefusal r i t ≡ 0 → 0 < stateAt r (i - 1) .live
+  pub can-release : releaseTests (lineAt r (i - 1)) (stateAt r (i - 1)) t ≡ 0 → Releasable (lineAt r (i - 1)) (stateAt r (i - 1)) t
+  pub can-finish : finishTests (stateAt r (i - 1)) ≡ 0 → 0 < stateAt r (i - 1) .live
 
 pub task-call : {r : Record} {i t : ℕ} → taskTests r i t ≡ 0 → TaskCall r i t
 unfolding releaseRefusal finishRefusal
@@ -42,8 +42,6 @@ task-call {r} {i} {t} e =
     let period = period-small (r .plan) (k .plan) (i - 1) h in
     let weight = weight-small (r .plan) (k .plan) (i - 1) h in
     let shares = shares-sum (r .plan) (k .plan) (i - 1) h in
-    let release : releaseRefusal r i t ≡ releaseTests ln st t = rw (eq-eqb (taskTests r i t) 0 e) in
-    let finish : finishRefusal r i t ≡ finishTests st = rw (eq-eqb (taskTests r i t) 0 e) in
     record {
       from = p .from;
       below = task-below r k (i - 1) h;
@@ -51,10 +49,10 @@ task-call {r} {i} {t} e =
       last = f .last;
       time-fits = omega (arith, p .limit);
       due-fits = omega (arith, due-small r k (i - 1) h);
-      release-number = release;
-      finish-number = finish;
-      can-release = λ z. releasable ln st t (sym release ∙ z) f weight shares (p .limit) period;
-      can-finish = λ z. has-run st (sym finish ∙ z);
+      release-number = rw (eq-eqb (taskTests r i t) 0 e);
+      finish-number = rw (eq-eqb (taskTests r i t) 0 e);
+      can-release = λ z. releasable ln st t z f weight shares (p .limit) period;
+      can-finish = λ z. has-run st z;
     }
 
 -- core k, from 1: it is in its range, and a task that waits there has a deadline in its range

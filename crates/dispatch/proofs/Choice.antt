@@ -105,7 +105,7 @@ module _ (r : Record) (g : Good r) (k : ℕ) where
 
   -- and so is an accepted look's
   pub look-first : (t : ℕ) → lookRefusal r k t ≡ 0 → Chosen r k (lookOf r k t .choice)
-  look-first t e = rw (look-taken r k t e) choice-first
+  look-first t e = rw (look-taken r k t refl e refl) choice-first
 
   -- a task's row in the table
   row-at : (i : ℕ) → getD (sharesTable (r .plan)) i [] ≡ rowOf (lineAt r i)

@@ -3,7 +3,7 @@ use Prim.Native.Nat.{ℕ, _-_, _<_}
 use mathlib.Core.Path.{_≡_, refl}
 use native.Mathlib.Decide.{ℕ-discrete}
 use native.Mathlib.Omega.{arith}
-use Rattle.task_state.specs.Runs.{withRun, withoutRun}
+use Rattle.task_state.specs.Runs.{withRun, takenRun, withoutRun}
 use Rattle.task_state.proofs.Facts.{facts, turnable}
 use Rattle.task_state.proofs.Passed.{has-room}
 use Rattle.task_state.proofs.Taken.{with-shaped, with-sound}
@@ -11,8 +11,8 @@ use Rattle.task_state.proofs.Ended.{without-shaped, without-sound}
 use Rattle.dispatch.specs.declared.Record.{Record}
 use Rattle.dispatch.specs.Record.{lineAt, stateAt}
 use Rattle.dispatch.specs.Refusals.{lookRefusal, releaseRefusal, finishRefusal}
-use Rattle.dispatch.specs.Release.{takeRelease, refuseRelease, releaseOf}
-use Rattle.dispatch.specs.Finish.{takeFinish, refuseFinish, finishOf}
+use Rattle.dispatch.specs.Release.{releaseOf}
+use Rattle.dispatch.specs.Finish.{finishOf}
 use Rattle.dispatch.specs.Look.{lookOf}
 use Rattle.dispatch.specs.Shape.{Good}
 use Rattle.dispatch.proofs.Records.{task-lined, task-wide, task-shaped, task-sound, moved-good, timed-good}
@@ -22,7 +22,7 @@ use Rattle.dispatch.proofs.Answers.{release-refused, finish-refused, lo
 module _ (r : Record) (i t : ℕ) (g : Good r) where
   -- a release
   pub release-good : Good (releaseOf r i t .next)
-  unfolding takeRelease refuseRelease
+  unfolding takenRun
   release-good = go (ℕ-discrete (releaseRefusal r i t) 0)
     where
       go : Dec (releaseRefusal r i t ≡ 0) → Good (releaseOf r i t .next)
@@ -38,14 +38,13 @@ module _ (r : Record) (i t : ℕ) (g : Good r) where
           let s = task-sound r g (i - 1) h in
           let f = facts ln st s in
           let turn = turnable ln st f (l .small) (l .shares) in
-          rw (release-taken r i t e)
+          rw (release-taken r i t refl e refl)
           (moved-good r g (i - 1) h (withRun ln st t) t (p .0 .limit)
           (with-shaped ln st t wide sh turn)
           (with-sound ln st t wide sh turn (has-room ln st t (p .1) (f .few)) (p .0 .limit) s))
 
   -- a finish
   pub finish-good : Good (finishOf r i t .next)
-  unfolding takeFinish refuseFinish
   finish-good = go (ℕ-discrete (finishRefusal r i t) 0)
     where
       go : Dec (finishRefusal r i t ≡ 0) → Good (finishOf r i t .next)
@@ -55,7 +54,7 @@ module _ (r : Record) (i t : ℕ) (g : Good r) where
           let h : i - 1 < r .plan .count = omega (arith, p .0 .from, p .0 .to) in
           let sh = task-shaped r g (i - 1) h in
           let s = task-sound r g (i - 1) h in
-          rw (finish-taken r i t e)
+          rw (finish-taken r i t refl e refl refl)
           (moved-good r g (i - 1) h (withoutRun (stateAt r (i - 1))) t (p .0 .limit)
           (without-shaped (stateAt r (i - 1)) sh)
           (without-sound (lineAt r (i - 1)) (stateAt r (i - 1)) sh s))
@@ -66,4 +65,4 @@ module _ (r : Record) (i t : ℕ) (g : Good r) where
     where
       go : Dec (lookRefusal r i t ≡ 0) → Good (lookOf r i t .next)
       go (no n) = rw (look-refused r i t refl n) g
-      go (yes e) = rw (look-taken r i t e) (timed-good r g t (look-passed r i t e .limit))
+      go (yes e) = rw (look-taken r i t refl e refl) (timed-good r g t (look-passed r i t e .limit))

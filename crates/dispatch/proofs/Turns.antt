@@ -17,12 +17,11 @@ use Rattle.turn.specs.declared.Turn.{Turn}
 use Rattle.turn.specs.Runs.{turnAfter as afterRuns, coreOfRun}
 use Rattle.task_state.specs.declared.State.{State}
 use Rattle.task_state.specs.State.{freshState, noState}
-use Rattle.task_state.specs.Runs.{turnAt, withRun, withoutRun}
+use Rattle.task_state.specs.Runs.{turnAt, withRun, takenRun, withoutRun}
 use Rattle.dispatch.specs.declared.Record.{Record}
 use Rattle.dispatch.specs.Record.{lineAt, stateAt, moved}
 use Rattle.dispatch.specs.Refusals.{releaseRefusal, finishRefusal, lookRefusal}
-use Rattle.dispatch.specs.Release.{takeRelease, refuseRelease}
-use Rattle.dispatch.specs.Finish.{takeFinish, refuseFinish, finishOf}
+use Rattle.dispatch.specs.Finish.{finishOf}
 use Rattle.dispatch.specs.Look.{lookOf}
 use Rattle.dispatch.specs.Shape.{Good}
 use Rattle.dispatch.specs.Calls.{Call, release, finish, look, step, coreBy}
@@ -96,7 +95,7 @@ module _ (i : ℕ) (ln : Line) (r : Record) (n : ℕ) (h : Here i ln r n) where
   look-at k t = go (ℕ-discrete (lookRefusal r k t) 0)
     where
       go : Dec (lookRefusal r k t ≡ 0) → At ln (stateAt (lookOf r k t .next) (i - 1)) n
-      go (yes e) = rw (look-taken r k t e) (h .turns)
+      go (yes e) = rw (look-taken r k t refl e refl) (h .turns)
       go (no z) = rw (look-refused r k t refl z) (h .turns)
 
   -- a call that moves another task's state does too
@@ -105,19 +104,18 @@ module _ (i : ℕ) (ln : Line) (r : Record) (n : ℕ) (h : Here i ln r n) where
 
   -- and so does a finish
   finish-at : (j t : ℕ) → At ln (stateAt (finishOf r j t .next) (i - 1)) n
-  unfolding takeFinish refuseFinish
   finish-at j t = go (ℕ-discrete (finishRefusal r j t) 0) (ℕ-discrete (i - 1) (j - 1))
     where
       go : Dec (finishRefusal r j t ≡ 0) → Dec (i - 1 ≡ j - 1) → At ln (stateAt (finishOf r j t .next) (i - 1)) n
       go (no z) d = rw (finish-refused r j t refl z) (h .turns)
-      go (yes e) (no d) = rw (finish-taken r j t e) (other-at (j - 1) t (withoutRun (stateAt r (j - 1))) d)
+      go (yes e) (no d) = rw (finish-taken r j t refl e refl refl) (other-at (j - 1) t (withoutRun (stateAt r (j - 1))) d)
       go (yes e) (yes d) =
-          rw (finish-taken r j t e, ← d, getD-set-same (r .states) (i - 1) (withoutRun (stateAt r (i - 1))) noState inside)
+          rw (finish-taken r j t refl e refl refl, ← d, getD-set-same (r .states) (i - 1) (withoutRun (stateAt r (i - 1))) noState inside)
           (at-finish ln (stateAt r (i - 1)) n (h .turns))
 
   -- a release
   release-next : (j t : ℕ) → Next i ln r n (release j t)
-  unfolding takeRelease refuseRelease
+  unfolding takenRun
   release-next j t = go (ℕ-discrete (releaseRefusal r j t) 0) (ℕ-discrete j i)
     where
       go : Dec (releaseRefusal r j t ≡ 0) → Dec (j ≡ i) → Next i ln r n (release j t)
@@ -128,14 +126,14 @@ module _ (i : ℕ) (ln : Line) (r : Record) (n : ℕ) (h : Here i ln r n) where
       go (yes e) (no d) = inl (
         rw (ne-eqb j i d),
         here-on (release j t) n
-            (rw (step, release-taken r j t e)
+            (rw (step, release-taken r j t refl e refl)
             (other-at (j - 1) t (withRun (lineAt r (j - 1)) (stateAt r (j - 1)) t) (λ q. d (omega (arith, release-passed r j t e .0 .from, h .from))))),
       )
       go (yes e) (yes d) = inr (
-        rw (eq-eqb j i d, release-answer r j t, eq-eqb (releaseRefusal r j t) 0 e, release-taken r j t e, d, h .line)
+        rw (eq-eqb j i d, release-answer r j t, eq-eqb (releaseRefusal r j t) 0 e, release-taken r j t refl e refl, d, h .line)
             (ap (λ (k : ℕ). k ∷ []) (at-core ln (stateAt r (i - 1)) n (h .turns))),
         here-on (release j t) (suc n)
-            (rw (step, release-taken r j t e, d, getD-set-same (r .states) (i - 1) (withRun (lineAt r (i - 1)) (stateAt r (i - 1)) t) noState inside, h .line)
+            (rw (step, release-taken r j t refl e refl, d, getD-set-same (r .states) (i - 1) (withRun (lineAt r (i - 1)) (stateAt r (i - 1)) t) noState inside, h .line)
             (at-release ln (stateAt r (i - 1)) n (h .turns) t)),
       )
 

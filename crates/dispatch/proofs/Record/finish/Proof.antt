@@ -1,7 +1,6 @@
 use Rattle.dispatch.proofs.Called.{TaskCall, task-call}
 use Rattle.dispatch.proofs.Answers.{finish-first, finish-refused, finish-taken}
 use Rattle.dispatch.specs.Refusals.{taskTests, finishRefusal}
-use Rattle.dispatch.specs.Finish.{takeFinish, refuseFinish}
 use Rattle.arith.proofs.Signed.{pos-fits, sub-fits, sub-is}
 use native.Mathlib.Omega.{arith}
 use mathlib.Core.Path.{_≡_, sym, _∙_}
@@ -38,10 +37,6 @@ known c = task-call (sym (first (c .before)) ∙ c .if1 .taken)
 own : (c : tie.After-finish-tests) → let s = start (passed c) .args in c .finish-tests .result ≡ finishRefusal (s .t1) (s .task) (s .time .0)
 own c = c .finish-tests .ensures ∙ sym (known (passed c) .finish-number)
 
--- none applies
-accepted : (c : tie.Then2) → let s = start (passed (c .before)) .args in finishRefusal (s .t1) (s .task) (s .time .0) ≡ 0
-accepted c = sym (own (c .before)) ∙ c .if2 .taken
-
 sub-i : tie.Need-sub-i
 sub-i c = omega (arith, known c .from)
 
@@ -67,7 +62,9 @@ sub-late : tie.Need-sub-late
 sub-late c = let k = known (passed (taken c .before)) in sub-fits _ _ (k .time-fits) (k .due-fits)
 
 without-run-requires : tie.Need-without-run-requires
-without-run-requires c κs = known (passed (taken c .before)) .can-finish (accepted (taken c))
+without-run-requires c κs =
+    let k = taken c in
+    known (passed (k .before)) .can-finish (sym (k .before .finish-tests .ensures) ∙ k .if2 .taken)
 
 mul-after : tie.Need-mul-after
 mul-after c = omega (arith, known (passed (taken (c .before) .before)) .below)
@@ -76,22 +73,19 @@ element-set-from-after : tie.Need-element-set-from-after
 element-set-from-after c = omega (arith, known (passed (taken (c .before) .before)) .below)
 
 returns : tie.Need-returns
-unfolding takeFinish
 returns c =
     let k = taken (c .before) in
     let s = start (passed (k .before)) .args in
     let p = known (passed (k .before)) in
-    rw (k .if2 .taken, sub-is _ _ (p .time-fits) (p .due-fits), c .without-run .ensures)
-    (sym (finish-taken (s .t1) (s .task) (s .time .0) (accepted k)))
+    let late = sub-is _ _ (p .time-fits) (p .due-fits) in
+    sym (finish-taken (s .t1) (s .task) (s .time .0) (own (k .before)) (k .if2 .taken) late (c .without-run .ensures))
 
 returns-2 : tie.Need-returns-2
-unfolding refuseFinish
 returns-2 c =
     let s = start (passed (c .before)) .args in
     sym (finish-refused (s .t1) (s .task) (s .time .0) (own (c .before)) (c .if2 .left))
 
 returns-3 : tie.Need-returns-3
-unfolding refuseFinish
 returns-3 c =
     let s = c .before .before .before .before .args in
     let n = finish-first (s .t1) (s .task) (s .time .0) (first (c .before)) (c .if1 .left) in

@@ -37,13 +37,9 @@ own : (c : tie.After-shared-tests Inv-loop μ-loop) → let s = c .before .befor
 unfolding lookRefusal
 own c = rw (c .before .sound .ensures) at (c .shared-tests .ensures)
 
--- none applies
-accepted : (c : tie.Then1 Inv-loop μ-loop) → let s = start c .args in lookRefusal (s .t1) (s .core) (s .time .0) ≡ 0
-accepted c = sym (own (c .before)) ∙ c .if1 .taken
-
--- what is known then
+-- what is known if none applies
 known : (c : tie.Then1 Inv-loop μ-loop) → let s = start c .args in CoreCall (s .t1) (s .core)
-known c = core-call (start c .args .time .0) (accepted c)
+known c = core-call (start c .args .time .0) (sym (own (c .before)) ∙ c .if1 .taken)
 
 loop-holds : tie.Need-loop-holds Inv-loop μ-loop
 unfolding bestOf
@@ -115,7 +111,7 @@ returns : tie.Need-returns Inv-loop μ-loop
 returns c =
     let k = passed (c .before .before .before) in
     let s = start k .args in
-    rw (k .if1 .taken, chosen c) (sym (look-taken (s .t1) (s .core) (s .time .0) (accepted k)))
+    sym (look-taken (s .t1) (s .core) (s .time .0) (own (k .before)) (k .if1 .taken) (chosen c))
 
 returns-2 : tie.Need-returns-2 Inv-loop μ-loop
 returns-2 c =

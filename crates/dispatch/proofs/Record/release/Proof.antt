@@ -1,8 +1,6 @@
 use Rattle.dispatch.proofs.Called.{TaskCall, task-call}
 use Rattle.dispatch.proofs.Answers.{release-first, release-refused, release-taken}
 use Rattle.dispatch.specs.Refusals.{taskTests, releaseRefusal}
-use Rattle.dispatch.specs.Release.{takeRelease, refuseRelease}
-use Rattle.task_state.specs.Runs.{takenRun}
 use native.Mathlib.Omega.{arith}
 use mathlib.Core.Path.{_≡_, sym, _∙_}
 use borrow.Author.Needs.{needs}
@@ -38,10 +36,6 @@ known c = task-call (sym (first (c .before)) ∙ c .if1 .taken)
 own : (c : tie.After-release-tests) → let s = start (passed c) .args in c .release-tests .result ≡ releaseRefusal (s .t1) (s .task) (s .time .0)
 own c = c .release-tests .ensures ∙ sym (known (passed c) .release-number)
 
--- none applies
-accepted : (c : tie.Then2) → let s = start (passed (c .before)) .args in releaseRefusal (s .t1) (s .task) (s .time .0) ≡ 0
-accepted c = sym (own (c .before)) ∙ c .if2 .taken
-
 sub-i : tie.Need-sub-i
 sub-i c = omega (arith, known c .from)
 
@@ -61,7 +55,7 @@ release-tests-requires : tie.Need-release-tests-requires
 release-tests-requires c κs = let k = known (c .before .before .before) in (k .last, k .period)
 
 with-run-requires : tie.Need-with-run-requires
-with-run-requires c κs = known (passed (c .before)) .can-release (accepted c)
+with-run-requires c κs = known (passed (c .before)) .can-release (sym (c .before .release-tests .ensures) ∙ c .if2 .taken)
 
 mul-after : tie.Need-mul-after
 mul-after c = omega (arith, known (passed (taken c .before)) .below)
@@ -70,21 +64,17 @@ element-set-from-after : tie.Need-element-set-from-after
 element-set-from-after c = omega (arith, known (passed (taken c .before)) .below)
 
 returns : tie.Need-returns
-unfolding takeRelease takenRun
 returns c =
     let k = taken c in
     let s = start (passed (k .before)) .args in
-    rw (k .if2 .taken, c .before .before .with-run .ensures)
-    (sym (release-taken (s .t1) (s .task) (s .time .0) (accepted k)))
+    sym (release-taken (s .t1) (s .task) (s .time .0) (own (k .before)) (k .if2 .taken) (c .before .before .with-run .ensures))
 
 returns-2 : tie.Need-returns-2
-unfolding refuseRelease
 returns-2 c =
     let s = start (passed (c .before)) .args in
     sym (release-refused (s .t1) (s .task) (s .time .0) (own (c .before)) (c .if2 .left))
 
 returns-3 : tie.Need-returns-3
-unfolding refuseRelease
 returns-3 c =
     let s = c .before .before .before .before .args in
     let n = release-first (s .t1) (s .task) (s .time .0) (first (c .before)) (c .if1 .left) in
