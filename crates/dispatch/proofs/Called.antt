@@ -30,6 +30,7 @@ pub record TaskCall (r : Record) (i t : ℕ) : Type 0 where
   pub can-release : releaseTests (lineAt r (i - 1)) (stateAt r (i - 1)) t ≡ 0 → Releasable (lineAt r (i - 1)) (stateAt r (i - 1)) t
   pub can-finish : finishTests (stateAt r (i - 1)) ≡ 0 → 0 < stateAt r (i - 1) .live
 
+-- so it is where none of 15, 7, 12 and 8 applies
 pub task-call : {r : Record} {i t : ℕ} → taskTests r i t ≡ 0 → TaskCall r i t
 unfolding releaseRefusal finishRefusal
 task-call {r} {i} {t} e =
@@ -61,6 +62,7 @@ pub record CoreCall (r : Record) (k : ℕ) : Type 0 where
   pub few : k ≤ coresLimit
   pub due : (i : ℕ) → i < tasksLimit → waits (stateAt r i) k ≡ true → deadlineOf (stateAt r i) ≤ clockLimit + periodLimit
 
+-- so it is where none of 15, 13, 12 and 8 applies
 pub core-call : {r : Record} {k : ℕ} (t : ℕ) → lookRefusal r k t ≡ 0 → CoreCall r k
 core-call {r} {k} t e =
     let p = look-passed r k t e in

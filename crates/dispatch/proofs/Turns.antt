@@ -133,8 +133,13 @@ module _ (i : ℕ) (ln : Line) (r : Record) (n : ℕ) (h : Here i ln r n) where
         rw (eq-eqb j i d, release-answer r j t, eq-eqb (releaseRefusal r j t) 0 e, release-taken r j t refl e refl, d, h .line)
             (ap (λ (k : ℕ). k ∷ []) (at-core ln (stateAt r (i - 1)) n (h .turns))),
         here-on (release j t) (suc n)
-            (rw (step, release-taken r j t refl e refl, d, getD-set-same (r .states) (i - 1) (withRun (lineAt r (i - 1)) (stateAt r (i - 1)) t) noState inside, h .line)
-            (at-release ln (stateAt r (i - 1)) n (h .turns) t)),
+            (rw (
+              step,
+              release-taken r j t refl e refl,
+              d,
+              getD-set-same (r .states) (i - 1) (withRun (lineAt r (i - 1)) (stateAt r (i - 1)) t) noState inside,
+              h .line,
+            ) (at-release ln (stateAt r (i - 1)) n (h .turns) t)),
       )
 
   -- every call
