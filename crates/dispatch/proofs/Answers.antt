@@ -20,7 +20,7 @@ use Rattle.dispatch.specs.Finish.{takeFinish, refuseFinish, finishOf}
 use Rattle.dispatch.specs.Look.{choiceOf, atTime, lookOf}
 
 module _ (r : Record) (i t : ℕ) where
-  -- a number of the tests of every call for a task is a release's
+  -- a number that applies to every call for a task is a release's
   pub release-first : {n : ℕ} → n ≡ taskTests r i t → (n ≡ 0 → ⊥) → n ≡ releaseRefusal r i t
   unfolding releaseRefusal
   release-first {n} q z = rw (← q, ne-eqb n 0 z)

@@ -1,8 +1,7 @@
 -- Each call keeps a good record good, whatever its numbers.
-use Prim.Native.Nat.{ℕ, _-_, _<_}
+use Prim.Native.Nat.{ℕ, _-_}
 use mathlib.Core.Path.{_≡_, refl}
 use native.Mathlib.Decide.{ℕ-discrete}
-use native.Mathlib.Omega.{arith}
 use Rattle.task_state.specs.Runs.{withRun, takenRun, withoutRun}
 use Rattle.task_state.proofs.Facts.{facts, turnable}
 use Rattle.task_state.proofs.Passed.{has-room}
@@ -31,7 +30,7 @@ module _ (r : Record) (i t : ℕ) (g : Good r) where
           let p = release-passed r i t e in
           let ln = lineAt r (i - 1) in
           let st = stateAt r (i - 1) in
-          let h : i - 1 < r .plan .count = omega (arith, p .0 .from, p .0 .to) in
+          let h = p .0 .here in
           let l = task-lined r g (i - 1) h in
           let wide = task-wide r g (i - 1) h in
           let sh = task-shaped r g (i - 1) h in
@@ -51,7 +50,7 @@ module _ (r : Record) (i t : ℕ) (g : Good r) where
       go (no n) = rw (finish-refused r i t refl n) g
       go (yes e) =
           let p = finish-passed r i t e in
-          let h : i - 1 < r .plan .count = omega (arith, p .0 .from, p .0 .to) in
+          let h = p .0 .here in
           let sh = task-shaped r g (i - 1) h in
           let s = task-sound r g (i - 1) h in
           rw (finish-taken r i t refl e refl refl)

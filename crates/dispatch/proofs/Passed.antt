@@ -19,11 +19,12 @@ gate : (b : Bool) (m n : ℕ) → 0 < m → cond b m n ≡ 0 → (b ≡ false) �
 gate true m n h e = absurd (omega arith)
 gate false m n h e = (refl, e)
 
--- a number from 1 to n, and a time from the clock to its limit
+-- a number from 1 to n, which is below n from 0, and a time from the clock to its limit
 pub record Passed (r : Record) (n i t : ℕ) : Type 0 where
   pub sound : soundOf r ≡ true
   pub from : 0 < i
   pub to : i ≤ n
+  pub here : i - 1 < n
   pub limit : t ≤ clockLimit
   pub clock : r .clock .0 ≤ t
 
@@ -34,10 +35,13 @@ passed r n m i t h e =
     let b = gate (outside n i) m (timeTests (r .clock .0) t) h (a .1) in
     let c = gate (ltb clockLimit t) clockNo (cond (ltb t (r .clock .0)) pastNo 0) (omega arith) (b .1) in
     let d = gate (ltb t (r .clock .0)) pastNo 0 (omega arith) (c .1) in
+    let some = eqb-false i 0 (or-false-left (eqb i 0) (ltb n i) (b .0)) in
+    let to = ltb-false n i (or-false-right (eqb i 0) (ltb n i) (b .0)) in
     record {
       sound = not-false (soundOf r) (a .0);
-      from = omega (arith, eqb-false i 0 (or-false-left (eqb i 0) (ltb n i) (b .0)));
-      to = ltb-false n i (or-false-right (eqb i 0) (ltb n i) (b .0));
+      from = omega (arith, some);
+      to = to;
+      here = omega (arith, some, to);
       limit = ltb-false clockLimit t (c .0);
       clock = ltb-false t (r .clock .0) (d .0);
     }
