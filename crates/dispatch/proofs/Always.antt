@@ -6,10 +6,14 @@ use native.Mathlib.Decide.{ℕ-discrete}
 use native.Mathlib.Nat.{le-refl, le-trans}
 use native.Mathlib.Omega.{arith}
 use Rattle.dispatch.specs.declared.Record.{Record}
+use Rattle.dispatch.specs.declared.release.Released.{Released}
+use Rattle.dispatch.specs.declared.finish.Finished.{Finished}
+use Rattle.dispatch.specs.declared.look.Looked.{Looked}
 use Rattle.dispatch.specs.Shape.{Good}
 use Rattle.dispatch.specs.Calls.{Call, release, finish, look, timeOf, callRefusal, step, after}
 use Rattle.dispatch.proofs.Passed.{release-passed, finish-passed, look-passed}
-use Rattle.dispatch.proofs.Answers.{release-answer, finish-answer, look-answer, release-refused, finish-refused, look-refused, release-taken, finish-taken, look-taken}
+use Rattle.dispatch.proofs.Answers.{release-answer, release-refused, release-taken, finish-answer, finish-refused, finish-taken}
+use Rattle.dispatch.proofs.Answers.{look-answer, look-refused, look-taken}
 use Rattle.dispatch.proofs.Keeps.{release-good, finish-good, look-good}
 
 -- a call keeps a good record good
@@ -25,15 +29,15 @@ always-good r (c ∷ cs) g = always-good (step r c) cs (step-good r c g)
 
 -- a refused call hands back the record that it was given
 pub refused-same : (r : Record) (c : Call) → (callRefusal r c ≡ 0 → ⊥) → step r c ≡ r
-refused-same r (release i t) n = release-refused r i t (λ e. n (release-answer r i t ∙ e))
-refused-same r (finish i t) n = finish-refused r i t (λ e. n (finish-answer r i t ∙ e))
-refused-same r (look k t) n = look-refused r k t (λ e. n (look-answer r k t ∙ e))
+refused-same r (release i t) n = ap (λ (a : Released). a .next) (release-refused r i t (release-answer r i t) n)
+refused-same r (finish i t) n = ap (λ (a : Finished). a .next) (finish-refused r i t (finish-answer r i t) n)
+refused-same r (look k t) n = ap (λ (a : Looked). a .next) (look-refused r k t (look-answer r k t) n)
 
 -- an accepted one sets the clock to its time
 pub accepted-clock : (r : Record) (c : Call) → callRefusal r c ≡ 0 → step r c .clock .0 ≡ timeOf c
-accepted-clock r (release i t) e = ap (λ (q : Record). q .clock .0) (release-taken r i t (sym (release-answer r i t) ∙ e))
-accepted-clock r (finish i t) e = ap (λ (q : Record). q .clock .0) (finish-taken r i t (sym (finish-answer r i t) ∙ e))
-accepted-clock r (look k t) e = ap (λ (q : Record). q .clock .0) (look-taken r k t (sym (look-answer r k t) ∙ e))
+accepted-clock r (release i t) e = ap (λ (a : Released). a .next .clock .0) (release-taken r i t (release-answer r i t) e refl)
+accepted-clock r (finish i t) e = ap (λ (a : Finished). a .next .clock .0) (finish-taken r i t (finish-answer r i t) e refl refl)
+accepted-clock r (look k t) e = ap (λ (a : Looked). a .next .clock .0) (look-taken r k t (look-answer r k t) e refl)
 
 -- its time is not below the clock
 accepted-time : (r : Record) (c : Call) → callRefusal r c ≡ 0 → r .clock .0 ≤ timeOf c
@@ -56,9 +60,9 @@ clock-rises r (c ∷ cs) = le-trans (step-clock r c) (clock-rises (step r c) cs)
 
 -- the plan never changes
 accepted-plan : (r : Record) (c : Call) → callRefusal r c ≡ 0 → step r c .plan ≡ r .plan
-accepted-plan r (release i t) e = ap (λ (q : Record). q .plan) (release-taken r i t (sym (release-answer r i t) ∙ e))
-accepted-plan r (finish i t) e = ap (λ (q : Record). q .plan) (finish-taken r i t (sym (finish-answer r i t) ∙ e))
-accepted-plan r (look k t) e = ap (λ (q : Record). q .plan) (look-taken r k t (sym (look-answer r k t) ∙ e))
+accepted-plan r (release i t) e = ap (λ (a : Released). a .next .plan) (release-taken r i t (release-answer r i t) e refl)
+accepted-plan r (finish i t) e = ap (λ (a : Finished). a .next .plan) (finish-taken r i t (finish-answer r i t) e refl refl)
+accepted-plan r (look k t) e = ap (λ (a : Looked). a .next .plan) (look-taken r k t (look-answer r k t) e refl)
 
 -- so no call changes it
 pub step-plan : (r : Record) (c : Call) → step r c .plan ≡ r .plan
