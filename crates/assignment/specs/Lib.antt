@@ -2,4 +2,5 @@ pub mod Passes
 pub mod Load
 pub mod Assign
 pub mod Movers
+pub mod Standing
 pub mod Structure

@@ -1,0 +1,100 @@
+-- How a task stands on a core says what the tests on its row say.
+use Prim.Native.Nat.{ℕ, _≤_, _<_}
+use mathlib.Core.Path.{_≡_, refl, sym, ap, _∙_}
+use mathlib.Core.Bool.{Bool, true, false, cond, not, _&&_, and-false}
+use mathlib.Core.List.{List}
+use native.Mathlib.Omega.{arith}
+use lib.Dec.{ltb, eqb}
+use lib.ListN.{getD}
+use borrow.Author.Tests.{ltb-true, ltb-false, le-ltb, eq-eqb, ne-eqb}
+use Rattle.lists.specs.Lists.{parts, bit}
+use Rattle.lists.proofs.Tests.{by-cases}
+use Rattle.lists.proofs.Parts.{parts-split}
+use Rattle.assignment.specs.declared.standing.Standing.{Standing}
+use Rattle.assignment.specs.declared.standing.Standing.the-variants.{Absent, Fixed, Lower, Upper}
+use Rattle.assignment.specs.Movers.{has, fixed, moves, firstCore, fixedOn, movesOn, lower, upper}
+use Rattle.assignment.specs.Standing.{standingBy, standingOn}
+
+-- the tests by the standing
+abbrev pub isUpper : Standing → Bool
+isUpper Absent = false
+isUpper Fixed = false
+isUpper Lower = false
+isUpper Upper = true
+
+abbrev pub isLower : Standing → Bool
+isLower Absent = false
+isLower Fixed = false
+isLower Lower = true
+isLower Upper = false
+
+abbrev pub isFixed : Standing → Bool
+isFixed Absent = false
+isFixed Fixed = true
+isFixed Lower = false
+isFixed Upper = false
+
+abbrev pub isMover : Standing → Bool
+isMover Absent = false
+isMover Fixed = false
+isMover Lower = true
+isMover Upper = true
+
+-- the table of a task that moves or not (m), has a share there or not (h), and its first core there or not (f)
+abbrev table : Bool → Bool → Bool → Standing
+table m h f = cond h (cond m (cond f Lower Upper) Fixed) Absent
+
+table-moves : (m h f : Bool) → (m && h) ≡ isMover (table m h f)
+table-moves true true true = refl
+table-moves true true false = refl
+table-moves true false f = refl
+table-moves false true f = refl
+table-moves false false f = refl
+
+table-upper : (m h f : Bool) → ((m && h) && not f) ≡ isUpper (table m h f)
+table-upper true true true = refl
+table-upper true true false = refl
+table-upper true false f = refl
+table-upper false true f = refl
+table-upper false false f = refl
+
+table-lower : (m h f : Bool) → ((m && h) && f) ≡ isLower (table m h f)
+table-lower true true true = refl
+table-lower true true false = refl
+table-lower true false f = refl
+table-lower false true f = refl
+table-lower false false f = refl
+
+table-fixed : (m h f : Bool) → (not m && h) ≡ isFixed (table m h f)
+table-fixed true true true = refl
+table-fixed true true false = refl
+table-fixed true false f = refl
+table-fixed false true f = refl
+table-fixed false false f = refl
+
+-- of one or more, one is no more than one
+not-more : (n : ℕ) → 0 < n → eqb n 1 ≡ not (ltb 1 n)
+not-more n h =
+    by-cases (ltb 1 n)
+    (λ e. rw e (ne-eqb n 1 (λ t. absurd (omega (arith, ltb-true 1 n e)))))
+    (λ e. rw e (eq-eqb n 1 (omega (arith, ltb-false 1 n e))))
+
+module _ (p : ℕ) (row : List ℕ) where
+  pub moves-stands : movesOn p row ≡ isMover (standingOn p row)
+  moves-stands = table-moves (moves row) (has p row) (eqb (firstCore row) p)
+
+  pub upper-stands : upper p row ≡ isUpper (standingOn p row)
+  upper-stands = table-upper (moves row) (has p row) (eqb (firstCore row) p)
+
+  pub lower-stands : lower p row ≡ isLower (standingOn p row)
+  lower-stands = table-lower (moves row) (has p row) (eqb (firstCore row) p)
+
+  -- with a share and no more than one it is fixed
+  only-one : (fixed row && has p row) ≡ (not (moves row) && has p row)
+  only-one =
+      by-cases (has p row)
+      (λ e. ap (λ (b : Bool). b && has p row) (not-more (parts row) (omega (arith, parts-split row p, ap bit e))))
+      (λ e. rw e (and-false (fixed row) ∙ sym (and-false (not (moves row)))))
+
+  pub fixed-stands : fixedOn p row ≡ isFixed (standingOn p row)
+  fixed-stands = only-one ∙ table-fixed (moves row) (has p row) (eqb (firstCore row) p)
