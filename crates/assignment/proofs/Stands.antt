@@ -7,6 +7,9 @@ use native.Mathlib.Omega.{arith}
 use lib.Dec.{ltb, eqb}
 use lib.ListN.{getD}
 use borrow.Author.Tests.{ltb-true, ltb-false, le-ltb, eq-eqb, ne-eqb}
+use Rattle.units.specs.declared.share.Share.{Share}
+use Rattle.units.specs.Units.{share, nums}
+use Rattle.units.proofs.Units.{nums-at}
 use Rattle.lists.specs.Lists.{parts, bit}
 use Rattle.lists.proofs.Tests.{by-cases}
 use Rattle.lists.proofs.Parts.{parts-split}
@@ -98,3 +101,8 @@ module _ (p : ℕ) (row : List ℕ) where
 
   pub fixed-stands : fixedOn p row ≡ isFixed (standingOn p row)
   fixed-stands = only-one ∙ table-fixed (moves row) (has p row) (eqb (firstCore row) p)
+
+-- what the code finds by a row's numbers
+pub found : (ss : List Share) (p f : ℕ) (m : Bool) → m ≡ moves (nums ss) → f ≡ firstCore (nums ss)
+    → standingBy m (getD ss p (share 0) .0) f p ≡ standingOn p (nums ss)
+found ss p f m e g = rw (e, g, nums-at ss p)
