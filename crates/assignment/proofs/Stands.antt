@@ -1,12 +1,15 @@
 -- How a task stands on a core says what the tests on its row say.
 use Prim.Native.Nat.{ℕ, _≤_, _<_}
 use mathlib.Core.Path.{_≡_, refl, sym, ap, _∙_}
+use mathlib.Core.Logic.{⊎-elim}
 use mathlib.Core.Bool.{Bool, true, false, cond, not, _&&_, and-false}
-use mathlib.Core.List.{List}
+use mathlib.Core.List.{List, [], _∷_}
 use native.Mathlib.Omega.{arith}
 use lib.Dec.{ltb, eqb}
 use lib.ListN.{getD}
 use borrow.Author.Tests.{ltb-true, ltb-false, le-ltb, eq-eqb, ne-eqb}
+use types.Run.{OneOf}
+use denote.Enum.Declared.{tagOf}
 use Rattle.units.specs.declared.share.Share.{Share}
 use Rattle.units.specs.Units.{share, nums}
 use Rattle.units.proofs.Units.{nums-at}
@@ -16,6 +19,7 @@ use Rattle.lists.proofs.Parts.{parts-split}
 use Rattle.assignment.specs.declared.standing.Standing.{Standing}
 use Rattle.assignment.specs.declared.standing.Standing.the-variants.{Absent, Fixed, Lower, Upper}
 use Rattle.assignment.specs.Movers.{has, fixed, moves, firstCore, fixedOn, movesOn, lower, upper}
+use Rattle.assignment.proofs.standing.Standing.{the-type}
 use Rattle.assignment.specs.Standing.{standingBy, standingOn}
 
 -- the tests by the standing
@@ -106,3 +110,10 @@ module _ (p : ℕ) (row : List ℕ) where
 pub found : (ss : List Share) (p f : ℕ) (m : Bool) → m ≡ moves (nums ss) → f ≡ firstCore (nums ss)
     → standingBy m (getD ss p (share 0) .0) f p ≡ standingOn p (nums ss)
 found ss p f m e g = rw (e, g, nums-at ss p)
+
+-- a match that leaves the upper movers to another arm
+pub but-upper : (s : Standing) → OneOf (0 ∷ 1 ∷ 2 ∷ []) (tagOf the-type s) → isUpper s ≡ false
+but-upper Absent h = refl
+but-upper Fixed h = refl
+but-upper Lower h = refl
+but-upper Upper h = absurd (⊎-elim (λ e. absurd (omega arith)) (⊎-elim (λ e. absurd (omega arith)) (λ e. absurd (omega arith))) h)

@@ -16,6 +16,7 @@ use Rattle.lists.specs.Lists.{parts}
 use Rattle.lists.proofs.Tests.{by-cases}
 use Rattle.lists.proofs.Lists.{parts-le}
 use Rattle.lists.proofs.Parts.{first-has}
+use Rattle.lists.proofs.Filled.{Stored, store-next, store-skip}
 use Rattle.assignment.specs.Movers.{movesOn, firstCore, upper, lower}
 use Rattle.assignment.proofs.Properties.{share-core}
 use Rattle.planning.specs.declared.Line.{Line}
@@ -24,7 +25,6 @@ use Rattle.planning.specs.Plan.{noLine, rowOf}
 use Rattle.planning.specs.Kept.{PlanKept}
 use Rattle.lateness.specs.declared.movers.Mover.{Mover}
 use Rattle.lateness.specs.Cores.{mover, moverOn, noMover, InFront}
-use Rattle.lateness.proofs.Filled.{Filled, filled-set, filled-skip}
 
 -- a test that does not hold
 and-false : (a b : Bool) → b ≡ false → (a && b) ≡ false
@@ -33,16 +33,16 @@ and-false false b e = refl
 
 -- p cores are passed
 abbrev pub Front : (ℕ → Bool) → (ℕ → Mover) → List Mover → ℕ → List Mover → Type 0
-Front f g old p new = Filled noMover coresLimit (λ q. cond (f q) (g q) (getD old q noMover)) old p new
+Front f g old p new = Stored noMover coresLimit (λ q. cond (f q) (g q) (getD old q noMover)) old 0 p new
 
 module _ (f : ℕ → Bool) (g : ℕ → Mover) (old : List Mover) (p : ℕ) (new : List Mover) (k : Front f g old p new) (h : p < coresLimit) where
   -- a core where it is a mover
   pub front-set : (m : Mover) → m ≡ g p → f p ≡ true → Front f g old (p + 1) (set new p m)
-  front-set m i e = filled-set noMover coresLimit (λ q. cond (f q) (g q) (getD old q noMover)) old p new k h m (i ∙ rw e)
+  front-set m i e = store-next noMover coresLimit (λ q. cond (f q) (g q) (getD old q noMover)) old 0 p new m k h (i ∙ rw e)
 
   -- one where it is none
   pub front-skip : f p ≡ false → Front f g old (p + 1) new
-  front-skip e = filled-skip noMover coresLimit (λ q. cond (f q) (g q) (getD old q noMover)) old p new k h (rw e)
+  front-skip e = store-skip noMover coresLimit (λ q. cond (f q) (g q) (getD old q noMover)) old 0 p new k h (rw e)
 
 module _ (ss : List Share) (p f : ℕ) (e : 1 < parts (nums ss)) (g : f ≡ firstCore (nums ss)) where
   -- the test that the code makes of a line that moves, with its first core f

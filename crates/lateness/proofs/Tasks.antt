@@ -11,6 +11,7 @@ use borrow.Author.Tests.{ltb-true, ltb-false, lt-ltb, le-ltb}
 use Rattle.units.specs.Limits.{coresLimit, tasksLimit, periodLimit}
 use Rattle.lists.specs.Lists.{parts, most}
 use Rattle.lists.proofs.Tests.{by-cases}
+use Rattle.lists.proofs.Filled.{Stored}
 use Rattle.assignment.specs.Movers.{moves, firstCore}
 use Rattle.planning.specs.declared.Line.{Line}
 use Rattle.planning.specs.declared.Plan.{Plan}
@@ -19,8 +20,11 @@ use Rattle.planning.specs.Kept.{PlanKept}
 use Rattle.lateness.specs.Lateness.{reaches, fixedLate, late, latesOf}
 use Rattle.lateness.specs.Cores.{gapOf, lateAt}
 use Rattle.lateness.specs.Small.{reachLimit, lateLimit}
-use Rattle.lateness.proofs.Noted.{Noted}
 use Rattle.lateness.proofs.Range.{reaches-le, fixed-le}
+
+-- a number of each task of those from i on
+abbrev pub Noted : (ℕ → ℕ) → List ℕ → ℕ → List ℕ → Type 0
+Noted f old i now = Stored 0 tasksLimit f old i tasksLimit now
 
 -- the first core of task i
 abbrev pub firstAt : Plan → ℕ → ℕ
@@ -42,8 +46,8 @@ gap-fixed ln h = rw (le-ltb 1 (parts (rowOf ln)) h) refl
 gap-le : (ln : Line) → ln .period .0 ≤ periodLimit → gapOf ln ≤ periodLimit + 1
 gap-le ln h = by-cases (moves (rowOf ln)) (λ e. rw e (omega arith)) (λ e. rw e (omega arith))
 
-pub gaps-small : (pl : Plan) → PlanKept pl → (gaps : List ℕ) → Noted tasksLimit (gapAt pl) 0 gaps → (i : ℕ) → getD gaps i 0 ≤ periodLimit + 1
-gaps-small pl k gaps n i =
+pub gaps-small : (pl : Plan) → PlanKept pl → (old gaps : List ℕ) → Noted (gapAt pl) old 0 gaps → (i : ℕ) → getD gaps i 0 ≤ periodLimit + 1
+gaps-small pl k old gaps n i =
     by-cases (ltb i tasksLimit)
     (λ e. omega (arith, n .done i (omega arith) (ltb-true i tasksLimit e), gap-le (getD (pl .lines) i noLine) (k .periods i)))
     (λ e. omega (arith, List·getD-eq-default gaps 0 {n = i} (omega (arith, n .long, ltb-false i tasksLimit e))))
@@ -75,12 +79,12 @@ module _ (pl : Plan) (rs : List ℕ) (is : rs ≡ reaches (pl .common) (pl .line
         (λ m. rw (m, at (firstCore (rowOf ln))) refl)
 
     -- together they are the plan's
-    pub tasks-late : (firsts gaps : List ℕ) (lates : List ℤ) → length (pl .lines) ≡ tasksLimit → length lates ≡ tasksLimit
-        → Noted tasksLimit (firstAt pl) 0 firsts → Noted tasksLimit (gapAt pl) 0 gaps
+    pub tasks-late : (old₁ firsts old₂ gaps : List ℕ) (lates : List ℤ) → length (pl .lines) ≡ tasksLimit → length lates ≡ tasksLimit
+        → Noted (firstAt pl) old₁ 0 firsts → Noted (gapAt pl) old₂ 0 gaps
         → ((i : ℕ) → i < tasksLimit → getD lates i (pos 0) ≡ lateAt rs fixed (getD firsts i 0) (getD gaps i 0))
         → lates ≡ latesOf pl
     unfolding latesOf
-    tasks-late firsts gaps lates l m f g h =
+    tasks-late old₁ firsts old₂ gaps lates l m f g h =
         let all : List ℕ = reaches (pl .common) (pl .lines) coresLimit in
         ext-getD (pos 0) lates (latesOf pl) (m ∙ sym l ∙ sym (length-map (pl .lines) (late (pl .common) all (pl .lines))))
         (λ i k.

@@ -4,16 +4,16 @@ use mathlib.Core.Path.{_≡_, refl, sym, _∙_}
 use native.Mathlib.Omega.{arith}
 use lib.ListN.{length, getD, drop, set, length-set, length-map}
 use Rattle.units.specs.Limits.{tasksLimit, coresLimit}
-use Rattle.lists.specs.Lists.{parts}
+use Rattle.lists.specs.Lists.{zeros, parts}
 use Rattle.lists.proofs.Lists.{most-ge}
+use Rattle.lists.proofs.Filled.{stored-none, store-before}
 use Rattle.planning.specs.declared.Line.{Line}
 use Rattle.planning.specs.Plan.{noLine, rowOf}
 use Rattle.lateness.specs.declared.movers.Movers.{Movers}
 use Rattle.lateness.specs.Cores.{MoversOf}
-use Rattle.lateness.proofs.Noted.{Noted, noted-none, noted-next}
 use Rattle.lateness.proofs.Front.{as-mover, first-there, lower-front}
 use Rattle.lateness.proofs.Gathered.{gathered-none, gathered-next, unmoved-upper, unmoved-lower}
-use Rattle.lateness.proofs.Tasks.{firstAt, gapAt, gap-moves, gap-fixed, gaps-small, reaches-small, fixed-small, tasks-late}
+use Rattle.lateness.proofs.Tasks.{Noted, firstAt, gapAt, gap-moves, gap-fixed, gaps-small, reaches-small, fixed-small, tasks-late}
 use borrow.Author.Needs.{needs}
 use Rattle.lateness.proofs.bounds.bounds_of.Statement.{statement}
 use Rattle.lateness.proofs.bounds.bounds_of.Tie as tie
@@ -21,7 +21,7 @@ use Rattle.lateness.proofs.bounds.bounds_of.Tie as tie
 abbrev Inv-loop : tie.InvT-loop
 Inv-loop plan upper₀ lower₀ firsts₀ gaps₀ i₀ upper lower firsts gaps i =
     (i ≤ tasksLimit) × MoversOf (drop i (plan .lines)) (record { upper = upper; lower = lower }) × (length lower ≡ coresLimit)
-    × Noted tasksLimit (firstAt plan) i firsts × Noted tasksLimit (gapAt plan) i gaps
+    × Noted (firstAt plan) firsts₀ i firsts × Noted (gapAt plan) gaps₀ i gaps
 
 abbrev μ-loop : tie.MeasureT-loop
 μ-loop plan upper₀ lower₀ firsts₀ gaps₀ i₀ upper lower firsts gaps i = i
@@ -40,7 +40,7 @@ all c =
 noted : (c : tie.After-loop Inv-loop μ-loop) →
     let at = c .before .loop in
     let pl = c .before .before .args .t1 in
-    Noted tasksLimit (firstAt pl) 0 (at .firsts) × Noted tasksLimit (gapAt pl) 0 (at .gaps)
+    Noted (firstAt pl) (zeros tasksLimit) 0 (at .firsts) × Noted (gapAt pl) (zeros tasksLimit) 0 (at .gaps)
 noted c =
     let e : c .before .loop .i ≡ 0 = omega arith in
     (rw e at (c .before .loop .inv .3), rw e at (c .before .loop .inv .4))
@@ -62,7 +62,7 @@ core-there c =
 loop-holds : tie.Need-loop-holds Inv-loop μ-loop
 loop-holds c =
     let l = lines-long c in
-    (omega arith, gathered-none (c .args .t1 .lines) tasksLimit (omega arith), refl, noted-none _ _ _ refl, noted-none _ _ _ refl)
+    (omega arith, gathered-none (c .args .t1 .lines) tasksLimit (omega arith), refl, stored-none _ _ _ _ tasksLimit (omega arith) refl, stored-none _ _ _ _ tasksLimit (omega arith) refl)
 
 sub-i : tie.Need-sub-i Inv-loop μ-loop
 sub-i c = omega arith
@@ -125,7 +125,6 @@ loop-again c =
     let pl = at .before .args .t1 in
     let j : ℕ = at .loop .i - 1 in
     let e : j + 1 ≡ at .loop .i = omega arith in
-    let h : j < tasksLimit = omega arith in
     let f = q .before .first-core in
     let t = core-there (o .before .before) in
     let ln = read at in
@@ -134,8 +133,8 @@ loop-again c =
       gathered-next (pl .lines) j (record { upper = at .loop .upper; lower = at .loop .lower }) (record { upper = c .with-line .result; lower = set (at .loop .lower) (f .result) (o .mover-on .result) })
           (omega (arith, lines-long (at .before))) (rw e (at .loop .inv .1)) (c .with-line .ensures) low,
       length-set (at .loop .lower) (f .result) (o .mover-on .result) ∙ at .loop .inv .2,
-      noted-next _ (firstAt pl) (at .loop .firsts) j (f .result) (rw e (at .loop .inv .3)) h (f .ensures),
-      noted-next _ (gapAt pl) (at .loop .gaps) j _ (rw e (at .loop .inv .4)) h (gap-moves ln (t .0)),
+      store-before _ _ (firstAt pl) _ j _ (at .loop .firsts) (f .result) (rw e (at .loop .inv .3)) (f .ensures),
+      store-before _ _ (gapAt pl) _ j _ (at .loop .gaps) _ (rw e (at .loop .inv .4)) (gap-moves ln (t .0)),
     )
 
 mul-gaps-2 : tie.Need-mul-gaps-2 Inv-loop μ-loop
@@ -154,7 +153,6 @@ loop-again-2 c =
     let pl = at .before .args .t1 in
     let j : ℕ = at .loop .i - 1 in
     let e : j + 1 ≡ at .loop .i = omega arith in
-    let h : j < tasksLimit = omega arith in
     let f = q .before .first-core in
     let ms : Movers = record { upper = at .loop .upper; lower = at .loop .lower } in
     let ln = read at in
@@ -163,8 +161,8 @@ loop-again-2 c =
       gathered-next (pl .lines) j ms ms (omega (arith, lines-long (at .before))) (rw e (at .loop .inv .1))
           (unmoved-upper (at .loop .upper) ln k) (unmoved-lower (at .loop .lower) ln k),
       at .loop .inv .2,
-      noted-next _ (firstAt pl) (at .loop .firsts) j (f .result) (rw e (at .loop .inv .3)) h (f .ensures),
-      noted-next _ (gapAt pl) (at .loop .gaps) j 0 (rw e (at .loop .inv .4)) h (gap-fixed ln k),
+      store-before _ _ (firstAt pl) _ j _ (at .loop .firsts) (f .result) (rw e (at .loop .inv .3)) (f .ensures),
+      store-before _ _ (gapAt pl) _ j _ (at .loop .gaps) 0 (rw e (at .loop .inv .4)) (gap-fixed ln k),
     )
 
 reaches-of-requires : tie.Need-reaches-of-requires Inv-loop μ-loop
@@ -189,7 +187,7 @@ lates-of-requires c κs =
       gaps-long = noted q .1 .long;
       reaches-long = search needs;
       fixed-long = search needs;
-      gap = gaps-small (s .args .t1) (s .pre) (q .before .loop .gaps) (noted q .1);
+      gap = gaps-small (s .args .t1) (s .pre) _ (q .before .loop .gaps) (noted q .1);
       reach = λ p. omega (arith, b, most-ge (rs .reaches-of .result) p);
       late = fixed-small (s .args .t1) (rs .reaches-of .result) (rs .reaches-of .ensures) (fx .fixed-of .result) (fx .fixed-of .ensures) (s .pre);
     }
@@ -202,7 +200,7 @@ returns c =
     let s = q .before .before in
     let m : length (c .lates-of .result) ≡ tasksLimit = search needs in
     tasks-late (s .args .t1) (rs .reaches-of .result) (rs .reaches-of .ensures) (fx .fixed-of .result) (fx .fixed-of .ensures)
-    (q .before .loop .firsts) (q .before .loop .gaps) (c .lates-of .result) (lines-long s) m (noted q .0) (noted q .1) (c .lates-of .ensures)
+    _ (q .before .loop .firsts) _ (q .before .loop .gaps) (c .lates-of .result) (lines-long s) m (noted q .0) (noted q .1) (c .lates-of .ensures)
 
 pub bounds-of-spec : {M : Type 1} → statement M
 bounds-of-spec =

@@ -8,21 +8,21 @@ use mir.Syntax.{w64}
 use mir.Val.{SFits}
 use mir.ValLaws.{toZ-ofZ}
 use Rattle.units.specs.Limits.{tasksLimit}
+use Rattle.lists.proofs.Filled.{Stored, stored-none, store-next}
 use Rattle.lateness.specs.Cores.{lateAt}
-use Rattle.lateness.proofs.Filled.{Filled, filled-none, filled-set}
 use borrow.Author.Needs.{needs}
 use Rattle.lateness.proofs.bounds.lates_of.Statement.{statement}
 use Rattle.lateness.proofs.bounds.lates_of.Tie as tie
 
 abbrev Inv-loop : tie.InvT-loop
 Inv-loop firsts gaps reaches fixed lates₀ i₀ lates i =
-    Filled (pos 0) tasksLimit (λ j. lateAt reaches fixed (getD firsts j 0) (getD gaps j 0)) lates₀ i lates
+    Stored (pos 0) tasksLimit (λ j. lateAt reaches fixed (getD firsts j 0) (getD gaps j 0)) lates₀ 0 i lates
 
 abbrev μ-loop : tie.MeasureT-loop
 μ-loop firsts gaps reaches fixed lates₀ i₀ lates i = tasksLimit - i
 
 loop-holds : tie.Need-loop-holds Inv-loop μ-loop
-loop-holds c = filled-none _ _ _ _ refl
+loop-holds c = stored-none _ _ _ _ 0 (omega arith) refl
 
 mul-first : tie.Need-mul-first Inv-loop μ-loop
 mul-first c = omega arith
@@ -59,12 +59,12 @@ loop-again : tie.Need-loop-again Inv-loop μ-loop
 loop-again c =
     let at = c .before .before .before .before .loop in
     let f : SFits w64 (c .late-at .result) = search needs in
-    filled-set _ _ _ _ (at .i) (at .lates) (at .inv) (omega arith) _ (toZ-ofZ w64 (c .late-at .result) f ∙ c .late-at .ensures)
+    store-next _ _ _ _ 0 (at .i) (at .lates) _ (at .inv) (omega arith) (toZ-ofZ w64 (c .late-at .result) f ∙ c .late-at .ensures)
 
 returns : tie.Need-returns Inv-loop μ-loop
 returns c =
     let at = c .before .loop in
-    λ q h. at .inv .done q (omega arith)
+    λ q h. at .inv .done q (omega arith) (omega arith)
 
 pub lates-of-spec : {M : Type 1} → statement M
 lates-of-spec =

@@ -7,9 +7,9 @@ use native.Mathlib.Omega.{arith}
 use lib.ListN.{length}
 use Rattle.units.specs.Limits.{coresLimit}
 use Rattle.units.specs.Units.{nums}
+use Rattle.lists.proofs.Filled.{stored-none}
 use Rattle.assignment.specs.Movers.{upper as isUpper}
 use Rattle.lateness.specs.Cores.{moverOn}
-use Rattle.lateness.proofs.Filled.{filled-none}
 use Rattle.lateness.proofs.Front.{Front, front-set, front-skip, is-upper, as-mover}
 use borrow.Author.Needs.{needs}
 use Rattle.lateness.proofs.movers.with_line.Statement.{statement}
@@ -24,7 +24,7 @@ abbrev μ-loop : tie.MeasureT-loop
 loop-holds : tie.Need-loop-holds Inv-loop μ-loop
 loop-holds c =
     let l : length (c .before .args .above) ≡ coresLimit = search needs in
-    filled-none _ _ _ _ l
+    stored-none _ _ _ _ 0 (omega arith) l
 
 mul-s : tie.Need-mul-s Inv-loop μ-loop
 mul-s c = omega arith
@@ -63,7 +63,7 @@ loop-again c =
     (c .if1 .came)
 
 returns : tie.Need-returns Inv-loop μ-loop
-returns c = λ q h. c .before .loop .inv .done q (omega arith)
+returns c = λ q h. c .before .loop .inv .done q (omega arith) (omega arith)
 
 pub with-line-spec : {M : Type 1} → statement M
 with-line-spec =
