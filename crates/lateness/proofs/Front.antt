@@ -44,11 +44,6 @@ module _ (f : ℕ → Bool) (g : ℕ → Mover) (old : List Mover) (p : ℕ) (ne
   pub front-skip : f p ≡ false → Front f g old (p + 1) new
   front-skip e = store-skip noMover coresLimit (λ q. cond (f q) (g q) (getD old q noMover)) old 0 p new k h (rw e)
 
-module _ (ss : List Share) (p f : ℕ) (e : 1 < parts (nums ss)) (g : f ≡ firstCore (nums ss)) where
-  -- the test that the code makes of a line that moves, with its first core f
-  pub is-upper : (ltb 0 (getD ss p (share 0) .0) && not (eqb f p)) ≡ upper p (nums ss)
-  is-upper = rw (lt-ltb 1 (parts (nums ss)) e, g, nums-at ss p)
-
 -- what the code keeps of a line is its mover
 pub as-mover : (ln : Line) (p f : ℕ) → f ≡ firstCore (rowOf ln) → mover (getD (ln .shares) p (share 0)) ln f ≡ moverOn p ln
 as-mover ln p f e = ap₂ (λ (s q : ℕ). mover (share s) ln q) (sym (nums-at (ln .shares) p)) e

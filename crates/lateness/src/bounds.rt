@@ -6,6 +6,7 @@ use crate::movers::with_line;
 use arith::ceiling::ceil_div;
 use assignment::rows::first_core;
 use assignment::rows::parts_of;
+use assignment::standing::moves_by;
 use planning::Plan;
 use units::limits::CORES;
 use units::limits::TASKS;
@@ -143,7 +144,7 @@ pub fn bounds_of(plan: Plan) -> [i64; TASKS]
         let shares = line.shares;
         let first = first_core(shares);
         firsts[i] = first;
-        if 1 < parts_of(shares) {
+        if moves_by(parts_of(shares)) {
             gaps[i] = line.period.0 + 1;
             let s = shares[first];
             let mover = mover_on(s, line, first);

@@ -1,4 +1,6 @@
 // The movers of each core.
+use assignment::standing::Standing;
+use assignment::standing::stands;
 use planning::Line;
 use units::limits::CORES;
 use units::share::Share;
@@ -57,8 +59,8 @@ pub fn with_line(above: [Mover; CORES], line: Line, first: usize) -> [Mover; COR
     let mut p: usize = 0;
     while p < CORES {
         let s = shares[p];
-        let is_upper = (0 < s.0) & !(first == p);
-        if is_upper {
+        let standing = stands(true, s, first, p);
+        if let Standing::Upper = standing {
             let mover = mover_on(s, line, first);
             movers[p] = mover;
         }

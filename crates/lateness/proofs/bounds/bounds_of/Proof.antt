@@ -3,6 +3,7 @@ use Prim.Native.Nat.{ℕ, _+_, _-_, _≤_, _<_}
 use mathlib.Core.Path.{_≡_, refl, sym, _∙_}
 use native.Mathlib.Omega.{arith}
 use lib.ListN.{length, getD, drop, set, length-set, length-map}
+use borrow.Author.Tests.{ltb-true, ltb-false}
 use Rattle.units.specs.Limits.{tasksLimit, coresLimit}
 use Rattle.lists.specs.Lists.{zeros, parts}
 use Rattle.lists.proofs.Lists.{most-ge}
@@ -51,12 +52,13 @@ read at = getD (at .before .args .t1 .lines) (at .loop .i - 1) noLine
 
 -- if it moves its first core is a core
 core-there : (c : tie.After-struct-known Inv-loop μ-loop) →
-    (1 < parts (rowOf (read (c .before .before .before .before .before .before .before)))) × (c .before .before .before .first-core .result < coresLimit)
+    (1 < parts (rowOf (read (c .before .before .before .before .before .before .before .before)))) × (c .before .before .before .before .first-core .result < coresLimit)
 core-there c =
-    let q = c .before .before in
+    let b = c .before .before in
+    let q = b .before in
     let at = q .before .before .before .before .before in
     let ln = read at in
-    let m : 1 < parts (rowOf ln) = omega (arith, q .parts-of .ensures, c .before .if1 .taken) in
+    let m : 1 < parts (rowOf ln) = omega (arith, q .parts-of .ensures, ltb-true 1 (q .parts-of .result) (sym (b .moves-by .ensures) ∙ c .before .if1 .taken)) in
     (m, omega (arith, q .before .first-core .ensures, first-there (at .before .args .t1) (at .before .pre) (at .loop .i - 1) m))
 
 loop-holds : tie.Need-loop-holds Inv-loop μ-loop
@@ -85,9 +87,12 @@ array-write-firsts c = omega arith
 parts-of-requires : tie.Need-parts-of-requires Inv-loop μ-loop
 parts-of-requires c κs = search needs
 
+moves-by-requires : tie.Need-moves-by-requires Inv-loop μ-loop
+moves-by-requires c κs = search needs
+
 add-gaps : tie.Need-add-gaps Inv-loop μ-loop
 add-gaps c =
-    let at = c .before .before .before .before .before .before .before in
+    let at = c .before .before .before .before .before .before .before .before in
     record { fits = omega (arith, at .before .pre .periods (at .loop .i - 1)) }
 
 mul-gaps : tie.Need-mul-gaps Inv-loop μ-loop
@@ -112,7 +117,9 @@ array-set-from-lower : tie.Need-array-set-from-lower Inv-loop μ-loop
 array-set-from-lower c = omega (arith, core-there (c .before .before) .1)
 
 with-line-requires : tie.Need-with-line-requires Inv-loop μ-loop
-with-line-requires c κs = search needs
+with-line-requires c κs =
+    let t = c .before .before in
+    (core-there t .0, t .before .before .before .before .first-core .ensures)
 
 loop-less : tie.Need-loop-less Inv-loop μ-loop
 loop-less c = omega arith
@@ -120,7 +127,7 @@ loop-less c = omega arith
 loop-again : tie.Need-loop-again Inv-loop μ-loop
 loop-again c =
     let o = c .before in
-    let q = o .before .before .before .before in
+    let q = o .before .before .before .before .before in
     let at = q .before .before .before .before .before in
     let pl = at .before .args .t1 in
     let j : ℕ = at .loop .i - 1 in
@@ -148,7 +155,7 @@ loop-less-2 c = omega arith
 
 loop-again-2 : tie.Need-loop-again-2 Inv-loop μ-loop
 loop-again-2 c =
-    let q = c .before in
+    let q = c .before .before in
     let at = q .before .before .before .before .before in
     let pl = at .before .args .t1 in
     let j : ℕ = at .loop .i - 1 in
@@ -156,7 +163,7 @@ loop-again-2 c =
     let f = q .before .first-core in
     let ms : Movers = record { upper = at .loop .upper; lower = at .loop .lower } in
     let ln = read at in
-    let k : parts (rowOf ln) ≤ 1 = omega (arith, q .parts-of .ensures, c .if1 .left) in (
+    let k : parts (rowOf ln) ≤ 1 = omega (arith, q .parts-of .ensures, ltb-false 1 (q .parts-of .result) (sym (c .before .moves-by .ensures) ∙ c .if1 .left)) in (
       omega arith,
       gathered-next (pl .lines) j ms ms (omega (arith, lines-long (at .before))) (rw e (at .loop .inv .1))
           (unmoved-upper (at .loop .upper) ln k) (unmoved-lower (at .loop .lower) ln k),
@@ -216,6 +223,7 @@ bounds-of-spec =
     mul-firsts
     array-write-firsts
     parts-of-requires
+    moves-by-requires
     add-gaps
     mul-gaps
     array-write-gaps
