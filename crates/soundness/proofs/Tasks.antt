@@ -23,7 +23,7 @@ use Rattle.planning.specs.Plan.{noLine}
 use Rattle.soundness.specs.Rules.{numbersIn, commonIs, lineEmpty}
 use Rattle.lists.specs.Below.{allBelow}
 use Rattle.soundness.specs.Plan.{lineSound, lineOk}
-use Rattle.soundness.specs.Tests.{divisorWith}
+use Rattle.soundness.specs.Inner.{divisorWith}
 use Rattle.lists.proofs.Below.{all-suc}
 
 -- cores, tasks and the common period in their ranges, and a line for each of sixty-four tasks

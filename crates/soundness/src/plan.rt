@@ -15,7 +15,7 @@ ghost use Rattle.units.specs.Limits.{tasksLimit};
 ghost use Rattle.soundness.specs.Rules.{numbersIn, commonIs};
 ghost use Rattle.lists.specs.Below.{allBelow};
 ghost use Rattle.soundness.specs.Plan.{lineOk, planSound};
-ghost use Rattle.soundness.specs.Tests.{divisorWith};
+ghost use Rattle.soundness.specs.Inner.{divisorWith};
 
 // Cores, tasks and the common period are in their ranges.
 pub fn numbers_in(plan: Plan) -> bool
