@@ -1,7 +1,7 @@
 -- One line more in front: on the cores where it is a mover it takes the place of what stood there.
 use Prim.Native.Nat.{ℕ, _+_, _<_}
 use mathlib.Core.Path.{_≡_, refl, sym, ap₂, _∙_}
-use mathlib.Core.Bool.{Bool, true, false, cond, not, _&&_}
+use mathlib.Core.Bool.{Bool, true, false, cond, and-false}
 use mathlib.Core.List.{List}
 use lib.Dec.{ltb, eqb}
 use native.Mathlib.Omega.{arith}
@@ -25,11 +25,6 @@ use Rattle.planning.specs.Plan.{noLine, rowOf}
 use Rattle.planning.specs.Kept.{PlanKept}
 use Rattle.lateness.specs.declared.movers.Mover.{Mover}
 use Rattle.lateness.specs.Cores.{mover, moverOn, noMover, InFront}
-
--- a test that does not hold
-and-false : (a b : Bool) → b ≡ false → (a && b) ≡ false
-and-false true b e = e
-and-false false b e = refl
 
 -- p cores are passed
 abbrev pub Front : (ℕ → Bool) → (ℕ → Mover) → List Mover → ℕ → List Mover → Type 0
@@ -65,7 +60,7 @@ pub lower-at : (row : List ℕ) (p : ℕ) → 1 < parts row → p ≡ firstCore 
 lower-at row p h e = rw (e, lt-ltb 1 (parts row) h, lt-ltb 0 (getD row (firstCore row) 0) (first-some row h), eq-eqb (firstCore row) (firstCore row) refl) refl
 
 lower-off : (row : List ℕ) (p : ℕ) → (p ≡ firstCore row → ⊥) → lower p row ≡ false
-lower-off row p h = and-false (movesOn p row) (eqb (firstCore row) p) (ne-eqb (firstCore row) p (λ e. h (sym e)))
+lower-off row p h = rw (ne-eqb (firstCore row) p (λ e. h (sym e))) (and-false (movesOn p row))
 
 -- so its place alone is taken among the lower movers
 pub lower-front : (ln : Line) (ms : List Mover) (f : ℕ) (m : Mover) → 1 < parts (rowOf ln) → f ≡ firstCore (rowOf ln) → m ≡ moverOn f ln
