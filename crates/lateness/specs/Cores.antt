@@ -1,16 +1,15 @@
 -- The movers of each core and the numbers of each task, as the code keeps them.
 use Prim.Native.Nat.{ℕ, _+_, _*_, _-_, _<_}
 use mathlib.Core.Path.{_≡_}
-use mathlib.Core.Bool.{Bool, cond}
+use mathlib.Core.Bool.{Bool, false, cond}
 use mathlib.Core.List.{List}
-use lib.Dec.{ltb}
 use lib.IntN.{ℤ, pos, subℕ}
 use lib.ListN.{getD}
 use Rattle.units.specs.Limits.{coresLimit}
 use Rattle.units.specs.declared.share.Share.{Share}
 use Rattle.units.specs.Units.{share, ticks}
 use Rattle.arith.specs.Ceiling.{ceilDiv}
-use Rattle.assignment.specs.Movers.{moves, firstCore}
+use Rattle.assignment.specs.Movers.{firstCore}
 use Rattle.planning.specs.declared.Line.{Line}
 use Rattle.planning.specs.Plan.{rowOf}
 use Rattle.lateness.specs.declared.movers.Mover.{Mover}
@@ -50,10 +49,10 @@ reachBy l rs h m = ceilDiv (pushBy rs h + l * (2 * h .cost .0 + m .cost .0)) (l 
 abbrev pub pairLate : ℕ → List ℕ → Mover → Mover → ℕ
 pairLate l rs h m = ceilDiv (pushBy rs h + pushBy rs m + l * (2 * h .cost .0 + 2 * m .cost .0)) (l - h .share .0 - m .share .0)
 
--- one more than a mover's period, 0 of a task that does not move
-abbrev pub gapOf : Line → ℕ
-gapOf ln = cond (moves (rowOf ln)) (ln .period .0 + 1) 0
+-- a task's bound from the reaches of movers and the bounds of fixed tasks: it moves or not, with the period t and the first core p
+abbrev pub lateAt : List ℕ → List ℕ → Bool → ℕ → ℕ → ℤ
+lateAt rs fixed m t p = cond m (subℕ (getD rs p 0) t) (pos (getD fixed p 0))
 
--- a task's bound by its first core p and its gap g, from the reaches of movers and the bounds of fixed tasks
-abbrev pub lateAt : List ℕ → List ℕ → ℕ → ℕ → ℤ
-lateAt rs fixed p g = cond (ltb 0 g) (subℕ (getD rs p 0) (g - 1)) (pos (getD fixed p 0))
+-- that of task i, from what is noted of each
+abbrev pub latesAt : List ℕ → List ℕ → List Bool → List ℕ → List ℕ → ℕ → ℤ
+latesAt rs fixed ms ts ps i = lateAt rs fixed (getD ms i false) (getD ts i 0) (getD ps i 0)

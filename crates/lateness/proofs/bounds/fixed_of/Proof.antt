@@ -9,7 +9,7 @@ use Rattle.lists.proofs.Tests.{by-cases}
 use Rattle.lists.proofs.Filled.{Stored, stored-none, store-next}
 use Rattle.units.specs.Limits.{coresLimit}
 use Rattle.lateness.specs.Lateness.{fixedLate}
-use Rattle.lateness.proofs.Modest.{movers-small, movers-late, fixed-beyond}
+use Rattle.lateness.proofs.Modest.{movers-in-range, movers-late, fixed-beyond}
 use Rattle.lateness.proofs.bounds.fixed_of.Statement.{statement}
 use Rattle.lateness.proofs.bounds.fixed_of.Tie as tie
 
@@ -37,7 +37,7 @@ element-copy-out-lower c = omega arith
 fixed-on-requires : tie.Need-fixed-on-requires Inv-loop μ-loop
 fixed-on-requires c κs =
     let s = c .before .before .before .before in
-    (s .pre .3, movers-small (s .args .plan) (s .pre .0) (c .before .before .before .loop .p) _ (s .pre .1) (s .args .reaches .now) (omega arith) (s .pre .2))
+    (s .pre .3, movers-in-range (s .args .plan) (s .pre .0) (c .before .before .before .loop .p) _ (s .pre .1) (s .args .reaches .now) (omega arith) (s .pre .2))
 
 mul-bounds : tie.Need-mul-bounds Inv-loop μ-loop
 mul-bounds c = omega arith
