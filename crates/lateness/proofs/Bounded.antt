@@ -7,8 +7,7 @@ use native.Mathlib.Nat.{mul-le-mul}
 use Rattle.units.specs.Limits.{periodLimit, commonLimit}
 use Rattle.arith.specs.Ceiling.{ceilDiv}
 use Rattle.lateness.specs.declared.movers.Mover.{Mover}
-use Rattle.lateness.specs.Cores.{pushBy}
-use Rattle.lateness.specs.Small.{reachLimit, MoverInRange, PairInRange}
+use Rattle.lateness.specs.Inner.{pushBy, reachLimit, MoverInRange, PairInRange}
 
 -- s × (D + 2T) of a mover
 pub push-le : {rs : List ℕ} {m : Mover} → MoverInRange rs m → pushBy rs m ≤ commonLimit * (reachLimit + periodLimit)

@@ -24,7 +24,7 @@ use Rattle.planning.specs.declared.Plan.{Plan}
 use Rattle.planning.specs.Plan.{noLine, rowOf}
 use Rattle.planning.specs.Kept.{PlanKept}
 use Rattle.lateness.specs.declared.movers.Mover.{Mover}
-use Rattle.lateness.specs.Cores.{mover, moverOn, noMover, InFront}
+use Rattle.lateness.specs.Inner.{mover, moverOn, noMover, InFront}
 
 -- p cores are passed
 abbrev pub Front : (ℕ → Bool) → (ℕ → Mover) → List Mover → ℕ → List Mover → Type 0

@@ -16,8 +16,7 @@ use Rattle.planning.specs.Plan.{emptyLine, rowOf}
 use Rattle.planning.specs.Kept.{PlanKept}
 use Rattle.lateness.specs.declared.movers.Movers.{Movers}
 use Rattle.lateness.specs.Lateness.{upperOn, lowerOn, shareOn, push, reachOn, fixedLate}
-use Rattle.lateness.specs.Cores.{moverOn, noMover, MoversOf, reachBy, pairLate}
-use Rattle.lateness.specs.Small.{reachLimit, PairInRange}
+use Rattle.lateness.specs.Inner.{moverOn, noMover, MoversOf, reachBy, pairLate, reachLimit, PairInRange}
 use Rattle.lateness.proofs.Words.{fixed-alone}
 use Rattle.lateness.proofs.Pair.{empty-share, empty-load, first-share, first-le, over-pair}
 

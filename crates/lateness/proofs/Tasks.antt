@@ -19,8 +19,7 @@ use Rattle.planning.specs.declared.Plan.{Plan}
 use Rattle.planning.specs.Plan.{noLine, rowOf}
 use Rattle.planning.specs.Kept.{PlanKept}
 use Rattle.lateness.specs.Lateness.{reaches, fixedLate, late, latesOf}
-use Rattle.lateness.specs.Cores.{lateAt, latesAt}
-use Rattle.lateness.specs.Small.{reachLimit, lateLimit}
+use Rattle.lateness.specs.Inner.{lateAt, latesAt, reachLimit, lateLimit}
 use Rattle.lateness.proofs.Range.{reaches-le, fixed-le}
 
 -- something of each task from i on

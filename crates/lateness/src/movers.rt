@@ -10,7 +10,7 @@ ghost use Prim.Native.Nat.{_<_};
 ghost use Rattle.lists.specs.Lists.{parts};
 ghost use Rattle.assignment.specs.Movers.{firstCore, upper};
 ghost use Rattle.planning.specs.Plan.{rowOf};
-ghost use Rattle.lateness.specs.Cores.{mover, InFront};
+ghost use Rattle.lateness.specs.Inner.{mover, InFront};
 
 // A mover on a core: its share there, its cost, its period and its first core.
 pub struct Mover {

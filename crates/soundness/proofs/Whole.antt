@@ -15,8 +15,7 @@ use Rattle.soundness.specs.declared.tally.Tally.{Tally}
 use Rattle.soundness.specs.Rules.{numbersIn, commonIs}
 use Rattle.lists.specs.Below.{allBelow}
 use Rattle.soundness.specs.Plan.{lineSound, lineOk, coreSound, planSound}
-use Rattle.soundness.specs.Inner.{noTally, tallyOf, WeightsTested}
-use Rattle.soundness.specs.Inner.{tallySound}
+use Rattle.soundness.specs.Inner.{noTally, tallyOf, WeightsTested, tallySound}
 use Rattle.lists.proofs.Below.{all-at, all-same}
 use Rattle.soundness.proofs.Ranges.{sound-sum, sound-small, Zero, empty-zero}
 use Rattle.soundness.proofs.Tasks.{Numbers, task-ok, past-ok}

@@ -12,7 +12,7 @@ use Rattle.assignment.specs.Movers.{moves}
 use Rattle.planning.specs.declared.Line.{Line}
 use Rattle.planning.specs.Plan.{noLine, rowOf}
 use Rattle.lateness.specs.declared.movers.Movers.{Movers}
-use Rattle.lateness.specs.Cores.{MoversOf}
+use Rattle.lateness.specs.Inner.{MoversOf}
 use Rattle.lateness.proofs.Front.{as-mover, first-there, lower-front}
 use Rattle.lateness.proofs.Gathered.{gathered-none, gathered-next, unmoved-upper, unmoved-lower}
 use Rattle.lateness.proofs.Tasks.{AllNoted, noted-none, noted-next, periods-small, reaches-small, fixed-small, tasks-late}

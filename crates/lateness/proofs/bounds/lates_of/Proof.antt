@@ -9,7 +9,7 @@ use mir.Val.{SFits}
 use mir.ValLaws.{toZ-ofZ}
 use Rattle.units.specs.Limits.{tasksLimit}
 use Rattle.lists.proofs.Filled.{Stored, stored-none, store-next}
-use Rattle.lateness.specs.Cores.{latesAt}
+use Rattle.lateness.specs.Inner.{latesAt}
 use borrow.Author.Needs.{needs}
 use Rattle.lateness.proofs.bounds.lates_of.Statement.{statement}
 use Rattle.lateness.proofs.bounds.lates_of.Tie as tie

@@ -13,7 +13,7 @@ use Rattle.lists.specs.Lists.{parts}
 use Rattle.lists.proofs.Filled.{stored-none}
 use Rattle.assignment.specs.Movers.{upper}
 use Rattle.assignment.proofs.Stands.{isUpper, upper-stands, found, but-upper}
-use Rattle.lateness.specs.Cores.{moverOn}
+use Rattle.lateness.specs.Inner.{moverOn}
 use Rattle.lateness.proofs.Front.{Front, front-set, front-skip, as-mover}
 use borrow.Author.Needs.{needs}
 use Rattle.lateness.proofs.movers.with_line.Statement.{statement}

@@ -1,11 +1,11 @@
--- The movers of each core and the numbers of each task, as the code keeps them.
-use Prim.Native.Nat.{ℕ, _+_, _*_, _-_, _<_}
+-- For the contracts of private functions alone: how the code keeps its numbers. It stands for no rule of document 01.
+use Prim.Native.Nat.{ℕ, _+_, _*_, _-_, _≤_, _<_}
 use mathlib.Core.Path.{_≡_}
 use mathlib.Core.Bool.{Bool, false, cond}
 use mathlib.Core.List.{List}
 use lib.IntN.{ℤ, pos, subℕ}
-use lib.ListN.{getD}
-use Rattle.units.specs.Limits.{coresLimit}
+use lib.ListN.{length, getD}
+use Rattle.units.specs.Limits.{coresLimit, tasksLimit, periodLimit, commonLimit}
 use Rattle.units.specs.declared.share.Share.{Share}
 use Rattle.units.specs.Units.{share, ticks}
 use Rattle.arith.specs.Ceiling.{ceilDiv}
@@ -56,3 +56,36 @@ lateAt rs fixed m t p = cond m (subℕ (getD rs p 0) t) (pos (getD fixed p 0))
 -- that of task i, from what is noted of each
 abbrev pub latesAt : List ℕ → List ℕ → List Bool → List ℕ → List ℕ → ℕ → ℤ
 latesAt rs fixed ms ts ps i = lateAt rs fixed (getD ms i false) (getD ts i 0) (getD ps i 0)
+
+-- a mover's reach, at most
+abbrev pub reachLimit : ℕ
+reachLimit = 7 * periodLimit * coresLimit
+
+-- a bound, at most
+abbrev pub lateLimit : ℕ
+lateLimit = 1000000000
+
+-- a mover, with the reaches of movers by their first core
+pub record MoverInRange (rs : List ℕ) (m : Mover) : Type 0 where
+  pub share : m .share .0 ≤ commonLimit
+  pub reach : getD rs (m .first) 0 ≤ reachLimit
+  pub period : m .period .0 ≤ periodLimit
+  pub cost : m .cost .0 ≤ periodLimit
+
+-- the upper mover h and the lower mover m of a core, which has l units
+pub record PairInRange (l : ℕ) (rs : List ℕ) (h m : Mover) : Type 0 where
+  pub common : l ≤ commonLimit
+  pub room : h .share .0 + m .share .0 ≤ l
+  pub upper : MoverInRange rs h
+  pub lower : MoverInRange rs m
+
+-- all that bounds are worked out from: whether a task moves, its period and its first core, the reaches of movers and the bounds of fixed tasks
+pub record BoundsReady (moving : List Bool) (periods firsts rs fixed : List ℕ) : Type 0 where
+  pub moving-long : length moving ≡ tasksLimit
+  pub periods-long : length periods ≡ tasksLimit
+  pub firsts-long : length firsts ≡ tasksLimit
+  pub reaches-long : length rs ≡ coresLimit
+  pub fixed-long : length fixed ≡ coresLimit
+  pub period : (i : ℕ) → getD periods i 0 ≤ periodLimit
+  pub reach : (p : ℕ) → getD rs p 0 ≤ lateLimit
+  pub late : (p : ℕ) → getD fixed p 0 ≤ lateLimit
