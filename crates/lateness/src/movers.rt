@@ -13,15 +13,15 @@ ghost use Rattle.planning.specs.Plan.{rowOf};
 ghost use Rattle.lateness.specs.Inner.{mover, InFront};
 
 // A mover on a core: its share there, its cost, its period and its first core.
-pub struct Mover {
-    pub share: Share,
-    pub cost: Ticks,
-    pub period: Ticks,
-    pub first: usize,
+pub(crate) struct Mover {
+    pub(crate) share: Share,
+    pub(crate) cost: Ticks,
+    pub(crate) period: Ticks,
+    pub(crate) first: usize,
 }
 
 impl Mover {
-    pub const NONE: Mover = Mover {
+    pub(crate) const NONE: Mover = Mover {
         share: Share::EMPTY,
         cost: Ticks(0),
         period: Ticks(0),
@@ -30,13 +30,13 @@ impl Mover {
 }
 
 // The upper and the lower mover of each core. Their numbers alone are kept: whole lines would be copied for each mover.
-pub struct Movers {
-    pub upper: [Mover; CORES],
-    pub lower: [Mover; CORES],
+pub(crate) struct Movers {
+    pub(crate) upper: [Mover; CORES],
+    pub(crate) lower: [Mover; CORES],
 }
 
 // A line with a share on a core as a mover there.
-pub fn mover_on(share: Share, line: Line, first: usize) -> Mover
+pub(crate) fn mover_on(share: Share, line: Line, first: usize) -> Mover
     ensures { λ r. ⌜ r ≡ mover share line first ⌝ }
 {
     let cost = line.cost;
@@ -50,7 +50,7 @@ pub fn mover_on(share: Share, line: Line, first: usize) -> Mover
 }
 
 // The upper movers with one line more in front, which moves.
-pub fn with_line(above: [Mover; CORES], line: Line, first: usize) -> [Mover; CORES]
+pub(crate) fn with_line(above: [Mover; CORES], line: Line, first: usize) -> [Mover; CORES]
     requires { ⌜ (1 < parts (rowOf line)) × (first ≡ firstCore (rowOf line)) ⌝ }
     ensures { λ r. ⌜ InFront (λ p. upper p (rowOf line)) line above r ⌝ }
 {

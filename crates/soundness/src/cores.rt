@@ -49,7 +49,7 @@ fn core_sound(tally: Tally, p: usize, cores: usize, common: u32) -> bool
 }
 
 // All rules for all cores.
-pub fn cores_sound(tallies: [Tally; CORES], cores: usize, common: u32) -> bool
+pub(crate) fn cores_sound(tallies: [Tally; CORES], cores: usize, common: u32) -> bool
     ensures { λ r. ⌜ r ≡ allBelow coresLimit (λ p. tallySound cores common p (getD tallies p noTally)) ⌝ }
 {
     let mut sound = true;

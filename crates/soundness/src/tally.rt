@@ -15,12 +15,12 @@ ghost use Rattle.planning.specs.Plan.{rowOf};
 ghost use Rattle.soundness.specs.Inner.{noTally, tallyOf, withFixed, withMover, withTask, AtMostAllTasks, WeightsTested};
 
 // Of one core: its load, its movers, those whose first core it is, the weight of the heaviest mover and of the heaviest fixed task.
-pub struct Tally {
-    pub load: Share,
-    pub movers: u32,
-    pub firsts: u32,
-    pub mover: Share,
-    pub fixed: Share,
+pub(crate) struct Tally {
+    pub(crate) load: Share,
+    pub(crate) movers: u32,
+    pub(crate) firsts: u32,
+    pub(crate) mover: Share,
+    pub(crate) fixed: Share,
 }
 
 // The heavier of two weights.
@@ -31,7 +31,7 @@ fn heavier(a: Share, b: Share) -> Share
 }
 
 impl Tally {
-    pub const NONE: Tally = Tally {
+    const NONE: Tally = Tally {
         load: Share::EMPTY,
         movers: 0,
         firsts: 0,
@@ -81,7 +81,7 @@ impl Tally {
 }
 
 // What the tasks put on each core, from the last task to the first.
-pub fn tallies_of(lines: [Line; TASKS]) -> [Tally; CORES]
+pub(crate) fn tallies_of(lines: [Line; TASKS]) -> [Tally; CORES]
     requires { ⌜ WeightsTested lines ⌝ }
     ensures { λ r. ⌜ ((p : ℕ) → p < coresLimit → getD r p noTally ≡ tallyOf p (map rowOf lines)) ⌝ }
 {
