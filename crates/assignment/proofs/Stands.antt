@@ -1,5 +1,5 @@
 -- How a task stands on a core says what the tests on its row say.
-use Prim.Native.Nat.{ℕ, _≤_, _<_}
+use Prim.Native.Nat.{ℕ, _<_}
 use mathlib.Core.Path.{_≡_, refl, sym, ap, _∙_}
 use mathlib.Core.Logic.{⊎-elim}
 use mathlib.Core.Bool.{Bool, true, false, cond, not, _&&_, and-false}
@@ -7,7 +7,7 @@ use mathlib.Core.List.{List, [], _∷_}
 use native.Mathlib.Omega.{arith}
 use lib.Dec.{ltb, eqb}
 use lib.ListN.{getD}
-use borrow.Author.Tests.{ltb-true, ltb-false, le-ltb, eq-eqb, ne-eqb}
+use borrow.Author.Tests.{ltb-true, ltb-false, eq-eqb, ne-eqb}
 use types.Run.{OneOf}
 use denote.Enum.Declared.{tagOf}
 use Rattle.units.specs.declared.share.Share.{Share}
@@ -19,8 +19,8 @@ use Rattle.lists.proofs.Parts.{parts-split}
 use Rattle.assignment.specs.declared.standing.Standing.{Standing}
 use Rattle.assignment.specs.declared.standing.Standing.the-variants.{Absent, Fixed, Lower, Upper}
 use Rattle.assignment.specs.Movers.{has, fixed, moves, firstCore, fixedOn, movesOn, lower, upper}
-use Rattle.assignment.proofs.standing.Standing.{the-type}
 use Rattle.assignment.specs.Standing.{standingBy, standingOn}
+use Rattle.assignment.proofs.standing.Standing.{the-type}
 
 -- the tests by the standing
 abbrev pub isUpper : Standing → Bool
@@ -51,33 +51,15 @@ isMover Upper = true
 abbrev table : Bool → Bool → Bool → Standing
 table m h f = cond h (cond m (cond f Lower Upper) Fixed) Absent
 
-table-moves : (m h f : Bool) → (m && h) ≡ isMover (table m h f)
-table-moves true true true = refl
-table-moves true true false = refl
-table-moves true false f = refl
-table-moves false true f = refl
-table-moves false false f = refl
-
-table-upper : (m h f : Bool) → ((m && h) && not f) ≡ isUpper (table m h f)
-table-upper true true true = refl
-table-upper true true false = refl
-table-upper true false f = refl
-table-upper false true f = refl
-table-upper false false f = refl
-
-table-lower : (m h f : Bool) → ((m && h) && f) ≡ isLower (table m h f)
-table-lower true true true = refl
-table-lower true true false = refl
-table-lower true false f = refl
-table-lower false true f = refl
-table-lower false false f = refl
-
-table-fixed : (m h f : Bool) → (not m && h) ≡ isFixed (table m h f)
-table-fixed true true true = refl
-table-fixed true true false = refl
-table-fixed true false f = refl
-table-fixed false true f = refl
-table-fixed false false f = refl
+-- mover, upper, lower and fixed by it
+table-says : (m h f : Bool)
+    → ((m && h) ≡ isMover (table m h f)) × (((m && h) && not f) ≡ isUpper (table m h f))
+    × (((m && h) && f) ≡ isLower (table m h f)) × ((not m && h) ≡ isFixed (table m h f))
+table-says true true true = (refl, refl, refl, refl)
+table-says true true false = (refl, refl, refl, refl)
+table-says true false f = (refl, refl, refl, refl)
+table-says false true f = (refl, refl, refl, refl)
+table-says false false f = (refl, refl, refl, refl)
 
 -- of one or more, one is no more than one
 not-more : (n : ℕ) → 0 < n → eqb n 1 ≡ not (ltb 1 n)
@@ -88,23 +70,23 @@ not-more n h =
 
 module _ (p : ℕ) (row : List ℕ) where
   pub moves-stands : movesOn p row ≡ isMover (standingOn p row)
-  moves-stands = table-moves (moves row) (has p row) (eqb (firstCore row) p)
+  moves-stands = table-says (moves row) (has p row) (eqb (firstCore row) p) .0
 
   pub upper-stands : upper p row ≡ isUpper (standingOn p row)
-  upper-stands = table-upper (moves row) (has p row) (eqb (firstCore row) p)
+  upper-stands = table-says (moves row) (has p row) (eqb (firstCore row) p) .1
 
   pub lower-stands : lower p row ≡ isLower (standingOn p row)
-  lower-stands = table-lower (moves row) (has p row) (eqb (firstCore row) p)
+  lower-stands = table-says (moves row) (has p row) (eqb (firstCore row) p) .2
 
   -- with a share and no more than one it is fixed
-  only-one : (fixed row && has p row) ≡ (not (moves row) && has p row)
+  only-one : fixedOn p row ≡ (not (moves row) && has p row)
   only-one =
       by-cases (has p row)
       (λ e. ap (λ (b : Bool). b && has p row) (not-more (parts row) (omega (arith, parts-split row p, ap bit e))))
       (λ e. rw e (and-false (fixed row) ∙ sym (and-false (not (moves row)))))
 
   pub fixed-stands : fixedOn p row ≡ isFixed (standingOn p row)
-  fixed-stands = only-one ∙ table-fixed (moves row) (has p row) (eqb (firstCore row) p)
+  fixed-stands = only-one ∙ table-says (moves row) (has p row) (eqb (firstCore row) p) .3
 
 -- what the code finds by a row's numbers
 pub found : (ss : List Share) (p f : ℕ) (m : Bool) → m ≡ moves (nums ss) → f ≡ firstCore (nums ss)

@@ -3,21 +3,20 @@ use Prim.Native.Nat.{ℕ, _+_, _<_}
 use mathlib.Core.Path.{_≡_, refl, sym, ap₂, _∙_}
 use mathlib.Core.Bool.{Bool, true, false, cond, and-false}
 use mathlib.Core.List.{List}
-use lib.Dec.{ltb, eqb}
+use lib.Dec.{eqb}
 use native.Mathlib.Omega.{arith}
 use lib.ListN.{length, getD, set, List·getD-map}
 use lib.Seq.{getD-set-same, getD-set-other}
 use borrow.Author.Tests.{lt-ltb, eqb-true, eqb-false, eq-eqb, ne-eqb}
 use Rattle.units.specs.Limits.{coresLimit}
-use Rattle.units.specs.declared.share.Share.{Share}
-use Rattle.units.specs.Units.{share, nums}
+use Rattle.units.specs.Units.{share}
 use Rattle.units.proofs.Units.{nums-at}
 use Rattle.lists.specs.Lists.{parts}
 use Rattle.lists.proofs.Tests.{by-cases}
 use Rattle.lists.proofs.Lists.{parts-le}
 use Rattle.lists.proofs.Parts.{first-has}
 use Rattle.lists.proofs.Filled.{Stored, store-next, store-skip}
-use Rattle.assignment.specs.Movers.{movesOn, firstCore, upper, lower}
+use Rattle.assignment.specs.Movers.{movesOn, firstCore, lower}
 use Rattle.assignment.proofs.Properties.{share-core}
 use Rattle.planning.specs.declared.Line.{Line}
 use Rattle.planning.specs.declared.Plan.{Plan}

@@ -19,7 +19,7 @@ use Rattle.planning.specs.declared.Plan.{Plan}
 use Rattle.planning.specs.Plan.{noLine, rowOf}
 use Rattle.planning.specs.Kept.{PlanKept}
 use Rattle.lateness.specs.Lateness.{reaches, fixedLate, late, latesOf}
-use Rattle.lateness.specs.Inner.{lateAt, latesAt, reachLimit, lateLimit}
+use Rattle.lateness.specs.Inner.{lateAt, EachLate, reachLimit, lateLimit}
 use Rattle.lateness.proofs.Range.{reaches-le, fixed-le}
 
 -- something of each task from i on
@@ -82,8 +82,7 @@ module _ (pl : Plan) (rs : List ℕ) (is : rs ≡ reaches (pl .common) (pl .line
 
     -- together they are the plan's
     pub tasks-late : (moving : List Bool) (periods firsts : List ℕ) (lates : List ℤ) → length (pl .lines) ≡ tasksLimit → length lates ≡ tasksLimit
-        → AllNoted pl 0 moving periods firsts
-        → ((i : ℕ) → i < tasksLimit → getD lates i (pos 0) ≡ latesAt rs fixed moving periods firsts i) → lates ≡ latesOf pl
+        → AllNoted pl 0 moving periods firsts → EachLate rs fixed moving periods firsts lates → lates ≡ latesOf pl
     unfolding latesOf
     tasks-late moving periods firsts lates l m n h =
         let all : List ℕ = reaches (pl .common) (pl .lines) coresLimit in

@@ -57,6 +57,10 @@ lateAt rs fixed m t p = cond m (subℕ (getD rs p 0) t) (pos (getD fixed p 0))
 abbrev pub latesAt : List ℕ → List ℕ → List Bool → List ℕ → List ℕ → ℕ → ℤ
 latesAt rs fixed ms ts ps i = lateAt rs fixed (getD ms i false) (getD ts i 0) (getD ps i 0)
 
+-- each bound is its task's
+abbrev pub EachLate : List ℕ → List ℕ → List Bool → List ℕ → List ℕ → List ℤ → Type 0
+EachLate rs fixed ms ts ps lates = (i : ℕ) → i < tasksLimit → getD lates i (pos 0) ≡ latesAt rs fixed ms ts ps i
+
 -- a mover's reach, at most
 abbrev pub reachLimit : ℕ
 reachLimit = 7 * periodLimit * coresLimit

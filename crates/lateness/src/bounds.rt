@@ -12,13 +12,13 @@ use units::limits::CORES;
 use units::limits::TASKS;
 ghost use Prim.Native.Nat.{ℕ, _+_, _≤_, _<_};
 ghost use mathlib.Core.Path.{_≡_};
-ghost use lib.IntN.{pos};
 ghost use lib.ListN.{length, getD};
-ghost use Rattle.units.specs.Limits.{coresLimit, tasksLimit, periodLimit};
+ghost use Rattle.units.specs.Limits.{coresLimit, periodLimit};
 ghost use Rattle.lists.specs.Lists.{most};
 ghost use Rattle.planning.specs.Kept.{PlanKept};
 ghost use Rattle.lateness.specs.Lateness.{reaches as reachesOf, fixedLate, latesOf};
-ghost use Rattle.lateness.specs.Inner.{MoversOf, pushBy, reachBy, pairLate, lateAt, latesAt, MoverInRange, PairInRange, BoundsReady, reachLimit, lateLimit};
+ghost use Rattle.lateness.specs.Inner.{MoversOf, pushBy, reachBy, pairLate, lateAt, EachLate};
+ghost use Rattle.lateness.specs.Inner.{MoverInRange, PairInRange, BoundsReady, reachLimit, lateLimit};
 
 // What stands at a core, 0 where there is no such core.
 fn at(numbers: &[u64; CORES], p: usize) -> u64
@@ -120,7 +120,7 @@ fn lates_of(
     fixed: &[u64; CORES],
 ) -> [i64; TASKS]
     requires { ⌜ BoundsReady (now moving) (now periods) (now firsts) (now reaches) (now fixed) ⌝ }
-    ensures { λ r. ⌜ ((i : ℕ) → i < tasksLimit → getD r i (pos 0) ≡ latesAt (now (reaches .entry)) (now (fixed .entry)) (now (moving .entry)) (now (periods .entry)) (now (firsts .entry)) i) ⌝ }
+    ensures { λ r. ⌜ EachLate (now (reaches .entry)) (now (fixed .entry)) (now (moving .entry)) (now (periods .entry)) (now (firsts .entry)) r ⌝ }
 {
     let mut lates = [0i64; TASKS];
     let mut i: usize = 0;

@@ -5,8 +5,8 @@ use mathlib.Core.List.{List, [], _∷_, _++_}
 use native.Mathlib.Omega.{arith}
 use native.Mathlib.Numerals.{add-one}
 use lib.Dec.{ltb, eqb}
-use lib.ListN.{length, getD, drop, set, replicate, length-set, length-replicate, length-append, getD-replicate, length-drop, List·getD-append, List·getD-eq-default}
-use lib.Seq.{drop-cons, getD-set-same, getD-set-other, getD-drop, ext-getD}
+use lib.ListN.{length, getD, drop, set, replicate, length-set, length-replicate, length-append, length-drop, List·getD-eq-default}
+use lib.Seq.{drop-cons, getD-set-same, getD-set-other, ext-getD}
 use borrow.Author.Tests.{ltb-true, ltb-false, eqb-true, eqb-false}
 use Rattle.lists.proofs.Tests.{by-cases}
 

@@ -1,7 +1,7 @@
 -- One task more on a core: what its row of shares adds to the core's tally.
 use Prim.Native.Nat.{ℕ, zero, suc, _+_, _≤_, _<_, max}
-use mathlib.Core.Path.{_≡_, refl, sym, ap, _∙_}
-use mathlib.Core.Bool.{Bool, not}
+use mathlib.Core.Path.{_≡_, refl, sym, ap}
+use mathlib.Core.Bool.{not}
 use mathlib.Core.List.{List, [], _∷_}
 use native.Mathlib.Omega.{arith}
 use lib.Dec.{eqb, eqb·suc-zero}
@@ -13,7 +13,7 @@ use Rattle.lists.specs.Lists.{total, parts, firstPart, bit, val}
 use Rattle.lists.proofs.Tests.{by-cases}
 use Rattle.lists.proofs.Lists.{getD-le-sum, sum-set, sum-take-suc, sum-ends, parts-le, parts-some}
 use Rattle.lists.proofs.Parts.{parts-split, parts-one, first-below}
-use Rattle.assignment.specs.Movers.{moves, firstCore}
+use Rattle.assignment.specs.Movers.{has, moves, firstCore}
 use Rattle.assignment.specs.declared.standing.Standing.{Standing}
 use Rattle.assignment.specs.declared.standing.Standing.the-variants.{Absent, Fixed, Lower, Upper}
 use Rattle.assignment.specs.Standing.{standingOn}
@@ -69,7 +69,8 @@ module _ (row : List ℕ) (p : ℕ) (h : 0 < getD row p 0) where
   -- a share that is the whole weight is the only one
   fixed-parts : getD row p 0 ≡ total row → parts row ≡ 1
   fixed-parts e =
-      omega (arith, parts-split row p, ap bit (lt-ltb 0 (getD row p 0) h), parts-le (take p row), parts-le (drop (suc p) row), sum-take-suc row p, sum-ends row (suc p))
+      let b : bit (has p row) ≡ 1 = ap bit (lt-ltb 0 (getD row p 0) h) in
+      omega (arith, parts-split row p, parts-le (take p row), parts-le (drop (suc p) row), sum-take-suc row p, sum-ends row (suc p))
 
   -- one that is not has others beside it
   moves-parts : (getD row p 0 ≡ total row → ⊥) → 1 < parts row

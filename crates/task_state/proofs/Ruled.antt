@@ -1,6 +1,6 @@
 -- The rules as the code tests them: a run's by its task's shares and the latest deadline, a state's by the sum of its counts first.
 use Prim.Native.Nat.{ℕ, _+_, _-_, _≤_, _<_}
-use mathlib.Core.Path.{_≡_, refl, sym, _∙_}
+use mathlib.Core.Path.{_≡_, sym, _∙_}
 use mathlib.Core.Bool.{Bool, true, false, cond, not, _&&_, and-false, and-self, and-comm, and-assoc}
 use mathlib.Core.List.{List}
 use borrow.Author.Tests.{ltb-true, leb-true, eqb-true, eqb-false, ne-eqb, lt-ltb, le-ltb}

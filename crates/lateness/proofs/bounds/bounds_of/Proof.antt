@@ -33,7 +33,8 @@ lines-long : (s : tie.Start Inv-loop μ-loop) → length (s .args .t1 .lines) �
 lines-long s = sym (length-map (s .args .t1 .lines) _) ∙ s .good .0 .1 .1 .1 .1 .1 .0 .1 .0 .1
 
 -- after the loop all movers are known
-all : (c : tie.After-loop Inv-loop μ-loop) → MoversOf (c .before .before .args .t1 .lines) (record { upper = c .before .loop .upper; lower = c .before .loop .lower })
+all : (c : tie.After-loop Inv-loop μ-loop)
+    → MoversOf (c .before .before .args .t1 .lines) (record { upper = c .before .loop .upper; lower = c .before .loop .lower })
 all c =
     let e : c .before .loop .i ≡ 0 = omega arith in
     rw e at (c .before .loop .inv .1)
@@ -63,7 +64,8 @@ noted-more : (f : tie.After-first-core Inv-loop μ-loop) →
 noted-more f =
     let at = f .before .before .before .before .before .before in
     let e : (at .loop .i - 1) + 1 ≡ at .loop .i = omega arith in
-    noted-next (at .before .args .t1) _ (at .loop .moving) (at .loop .periods) (at .loop .firsts) (rw e (at .loop .inv .3)) _ _ (tells f) (f .first-core .ensures)
+    noted-next (at .before .args .t1) _ (at .loop .moving) (at .loop .periods) (at .loop .firsts) (rw e (at .loop .inv .3)) _ _ (tells f)
+    (f .first-core .ensures)
 
 -- if it moves its first core is a core
 core-there : (c : tie.Then1 Inv-loop μ-loop) →

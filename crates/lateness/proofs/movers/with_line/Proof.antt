@@ -67,10 +67,16 @@ loop-again c =
     let row : List ℕ = nums (a .line .shares) in
     let on = as-mover (a .line) p (a .first) (s .pre .1) in
     let how = c .before .stands in
-    let up = upper-stands p row ∙ ap isUpper (sym (how .ensures ∙ found (a .line .shares) p (a .first) true (sym (lt-ltb 1 (parts row) (s .pre .0))) (s .pre .1))) in
+    let moves = sym (lt-ltb 1 (parts row) (s .pre .0)) in
+    let up = upper-stands p row ∙ ap isUpper (sym (how .ensures ∙ found (a .line .shares) p (a .first) true moves (s .pre .1))) in
+    let old = a .above in
     ⊎-elim
-    (λ t. rw (t .3) (front-set (λ q. upper q row) (λ q. moverOn q (a .line)) (a .above) p (at .movers) (at .inv) h _ (t .2 .ensures ∙ on) (up ∙ ap isUpper (t .1 .given .1))))
-    (λ t. rw (t .1) (front-skip (λ q. upper q row) (λ q. moverOn q (a .line)) (a .above) p (at .movers) (at .inv) h (up ∙ but-upper (how .result) (t .0 .keys2))))
+    (λ t.
+    rw (t .3)
+    (front-set (λ q. upper q row) (λ q. moverOn q (a .line)) old p (at .movers) (at .inv) h _ (t .2 .ensures ∙ on) (up ∙ ap isUpper (t .1 .given .1))))
+    (λ t.
+    rw (t .1)
+    (front-skip (λ q. upper q row) (λ q. moverOn q (a .line)) old p (at .movers) (at .inv) h (up ∙ but-upper (how .result) (t .0 .keys2))))
     (c .match .came)
 
 returns : tie.Need-returns Inv-loop μ-loop

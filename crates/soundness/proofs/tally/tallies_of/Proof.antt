@@ -1,16 +1,14 @@
 -- `tally::tallies_of` meets its contract: tasks are counted from the last to the first, and of each the cores from its first on.
 use Prim.Native.Nat.{ℕ, _<_, _+_, _-_, _≤_}
-use mathlib.Core.Path.{_≡_, refl, sym, _∙_}
+use mathlib.Core.Path.{_≡_}
 use mathlib.Core.Logic.{⊎-elim}
-use mathlib.Core.Bool.{Bool, not}
 use mathlib.Core.List.{List, _∷_, map}
 use native.Mathlib.Omega.{arith}
-use lib.Dec.{eqb}
 use lib.ListN.{length, getD, drop}
 use borrow.Author.Needs.{needs}
 use borrow.Author.Tests.{not-false}
 use Rattle.units.specs.Limits.{coresLimit, tasksLimit, commonLimit}
-use Rattle.units.specs.Units.{share, nums}
+use Rattle.units.specs.Units.{nums}
 use Rattle.units.proofs.Units.{nums-at}
 use Rattle.lists.specs.Lists.{total}
 use Rattle.lists.proofs.Lists.{getD-le-sum}
@@ -45,7 +43,8 @@ long c = search needs
 abbrev lineOf : tie.In-loop Inv-loop2 μ-loop2 Inv-loop μ-loop → Line
 lineOf c = getD (c .before .before .args .t1) (c .before .loop .i - 1) noLine
 
-tested : (c : tie.In-loop Inv-loop2 μ-loop2 Inv-loop μ-loop) → Counted (drop ((c .before .loop .i - 1) + 1) (map rowOf (c .before .before .args .t1))) (c .before .loop .tallies)
+tested : (c : tie.In-loop Inv-loop2 μ-loop2 Inv-loop μ-loop)
+    → Counted (drop ((c .before .loop .i - 1) + 1) (map rowOf (c .before .before .args .t1))) (c .before .loop .tallies)
 tested c =
     let e : (c .before .loop .i - 1) + 1 ≡ c .before .loop .i = omega arith in
     rw e (c .before .loop .inv .1)
@@ -62,7 +61,8 @@ all-few c =
     all-in-range (s .args .t1) (s .pre) (long s) (c .before .loop .i) (c .before .loop .tallies) (c .before .loop .inv .1)
 
 -- one task more is counted
-more : (c : tie.In-loop Inv-loop2 μ-loop2 Inv-loop μ-loop) (new : List Tally) → Counted (rowOf (lineOf c) ∷ drop ((c .before .loop .i - 1) + 1) (map rowOf (c .before .before .args .t1))) new
+more : (c : tie.In-loop Inv-loop2 μ-loop2 Inv-loop μ-loop) (new : List Tally)
+    → Counted (rowOf (lineOf c) ∷ drop ((c .before .loop .i - 1) + 1) (map rowOf (c .before .before .args .t1))) new
     → Inv-loop (c .before .before .args .t1) (c .before .loop .tallies) 0 new (c .before .loop .i - 1)
 more c new k =
     let s = c .before .before in
@@ -183,7 +183,8 @@ loop2-again c =
       omega arith,
       at .inv .1,
       pass-core (lineOf l) (f .first-core .result) _ (l .before .loop .tallies) (one-more f) (t .if1 .taken)
-          (at .p) (at .tallies) _ (c .before .stands .result) (c .with-task .result) (at .inv .2) (omega arith) moves (c .before .stands .ensures) (c .with-task .ensures),
+          (at .p) (at .tallies) _ (c .before .stands .result) (c .with-task .result) (at .inv .2) (omega arith) moves
+          (c .before .stands .ensures) (c .with-task .ensures),
     )
 
 loop-less-2 : tie.Need-loop-less-2 Inv-loop2 μ-loop2 Inv-loop μ-loop
