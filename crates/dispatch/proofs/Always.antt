@@ -12,8 +12,7 @@ use Rattle.dispatch.specs.declared.look.Looked.{Looked}
 use Rattle.dispatch.specs.Shape.{Good}
 use Rattle.dispatch.specs.Calls.{Call, release, finish, look, timeOf, callRefusal, step, after}
 use Rattle.dispatch.proofs.Passed.{release-passed, finish-passed, look-passed}
-use Rattle.dispatch.proofs.Answers.{release-answer, release-refused, release-taken, finish-answer, finish-refused, finish-taken}
-use Rattle.dispatch.proofs.Answers.{look-answer, look-refused, look-taken}
+use Rattle.dispatch.proofs.Answers.{release-answer, release-refused, release-taken, finish-answer, finish-refused, finish-taken, look-answer, look-refused, look-taken}
 use Rattle.dispatch.proofs.Keeps.{release-good, finish-good, look-good}
 
 -- a call keeps a good record good

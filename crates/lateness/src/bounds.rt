@@ -17,8 +17,7 @@ ghost use Rattle.units.specs.Limits.{coresLimit, periodLimit};
 ghost use Rattle.lists.specs.Lists.{most};
 ghost use Rattle.planning.specs.Kept.{PlanKept};
 ghost use Rattle.lateness.specs.Lateness.{reaches as reachesOf, fixedLate, latesOf};
-ghost use Rattle.lateness.specs.Inner.{MoversOf, pushBy, reachBy, pairLate, lateAt, EachLate};
-ghost use Rattle.lateness.specs.Inner.{MoverInRange, PairInRange, BoundsReady, reachLimit, lateLimit};
+ghost use Rattle.lateness.specs.Inner.{MoversOf, pushBy, reachBy, pairLate, lateAt, EachLate, MoverInRange, PairInRange, BoundsReady, reachLimit, lateLimit};
 
 // What stands at a core, 0 where there is no such core.
 fn at(numbers: &[u64; CORES], p: usize) -> u64

@@ -129,7 +129,7 @@ fn put_tasks(
 }
 
 // The whole listing, with the bounds of its tasks.
-pub fn put_plan(buf: &mut [u8], plan: Plan, lates: [i64; TASKS]) -> usize
+pub(crate) fn put_plan(buf: &mut [u8], plan: Plan, lates: [i64; TASKS]) -> usize
     requires { ⌜ (plan .count ≤ tasksLimit) × (lates ≡ latesOf plan) ⌝ }
     ensures { λ r. ⌜ Wrote (now (buf .entry)) 0 (listingText plan) (now (buf .exit)) r ⌝ }
     ensures { λ r. ⌜ r ≤ 100000 ⌝ }

@@ -8,8 +8,7 @@ use native.Mathlib.Omega.{arith}
 use native.Mathlib.Nat.{mul-le-mul-right}
 use native.Mathlib.Numerals.{add-one}
 use lib.Dec.{ltb, eqb}
-use lib.ListN.{length, getD, drop, set, replicate, length-map, length-drop, length-replicate, getD-replicate, drop-of-length-le}
-use lib.ListN.{List·getD-map, List·getD-eq-default}
+use lib.ListN.{length, getD, drop, set, replicate, length-map, length-drop, length-replicate, getD-replicate, drop-of-length-le, List·getD-map, List·getD-eq-default}
 use lib.Seq.{drop-cons, getD-drop}
 use borrow.Author.Tests.{ltb-true, ltb-false, eqb-true}
 use Rattle.units.specs.Limits.{coresLimit, tasksLimit, commonLimit}
