@@ -7,7 +7,8 @@ use Rattle.arith.specs.Ceiling.{ceilDiv}
 use Rattle.planning.specs.Plan.{planOf}
 use Rattle.turn.specs.Runs.{coreOfRun}
 use Rattle.dispatch.specs.Record.{recordOf}
-use Rattle.dispatch.specs.Calls.{Call, coresOf, sentTo, inARow}
+use Rattle.dispatch.specs.declared.call.Call.{Call}
+use Rattle.dispatch.specs.Calls.{coresOf, sentTo, inARow}
 use Rattle.dispatch.proofs.Demand3.{core-of-run, of-the-first, of-any-in-a-row}
 use Rattle.planning.specs.Tasks.{taskWeight, taskShares, taskShare}
 use Rattle.dispatch.proofs.Started.{started}

@@ -6,17 +6,20 @@ use native.Mathlib.Decide.{ℕ-discrete}
 use native.Mathlib.Nat.{le-refl, le-trans}
 use native.Mathlib.Omega.{arith}
 use Rattle.dispatch.specs.declared.Record.{Record}
+use Rattle.dispatch.specs.declared.call.Call.{Call}
+use Rattle.dispatch.specs.declared.call.Call.the-variants.{Release, Finish, Look}
 use Rattle.dispatch.specs.Shape.{Good}
-use Rattle.dispatch.specs.Calls.{Call, release, finish, look, timeOf, callRefusal, step, after}
+use Rattle.dispatch.specs.Calls.{timeOf, callRefusal, step, after}
 use Rattle.dispatch.proofs.Passed.{release-passed, finish-passed, look-passed}
-use Rattle.dispatch.proofs.Answers.{release-answer, finish-answer, look-answer, release-refused, finish-refused, look-refused, release-taken, finish-taken, look-taken}
+use Rattle.dispatch.proofs.Answers.{release-refused, finish-refused, look-refused, release-taken, finish-taken, look-taken}
+use Rattle.dispatch.proofs.OneCall.{release-no, finish-no, look-no}
 use Rattle.dispatch.proofs.Keeps.{release-good, finish-good, look-good}
 
 -- a call keeps a good record good
 pub step-good : (r : Record) (c : Call) → Good r → Good (step r c)
-step-good r (release i t) g = release-good r i t g
-step-good r (finish i t) g = finish-good r i t g
-step-good r (look k t) g = look-good r k t g
+step-good r (Release i t) g = release-good r i (t .0) g
+step-good r (Finish i t) g = finish-good r i (t .0) g
+step-good r (Look k t) g = look-good r k (t .0) g
 
 -- and so do any calls
 pub always-good : (r : Record) (cs : List Call) → Good r → Good (after r cs)
@@ -25,21 +28,21 @@ always-good r (c ∷ cs) g = always-good (step r c) cs (step-good r c g)
 
 -- a refused call hands back the record that it was given
 pub refused-same : (r : Record) (c : Call) → (callRefusal r c ≡ 0 → ⊥) → step r c ≡ r
-refused-same r (release i t) n = release-refused r i t (λ e. n (release-answer r i t ∙ e))
-refused-same r (finish i t) n = finish-refused r i t (λ e. n (finish-answer r i t ∙ e))
-refused-same r (look k t) n = look-refused r k t (λ e. n (look-answer r k t ∙ e))
+refused-same r (Release i t) n = release-refused r i (t .0) (λ e. n (release-no r i t ∙ e))
+refused-same r (Finish i t) n = finish-refused r i (t .0) (λ e. n (finish-no r i t ∙ e))
+refused-same r (Look k t) n = look-refused r k (t .0) (λ e. n (look-no r k t ∙ e))
 
 -- an accepted one sets the clock to its time
 pub accepted-clock : (r : Record) (c : Call) → callRefusal r c ≡ 0 → step r c .clock .0 ≡ timeOf c
-accepted-clock r (release i t) e = ap (λ (q : Record). q .clock .0) (release-taken r i t (sym (release-answer r i t) ∙ e))
-accepted-clock r (finish i t) e = ap (λ (q : Record). q .clock .0) (finish-taken r i t (sym (finish-answer r i t) ∙ e))
-accepted-clock r (look k t) e = ap (λ (q : Record). q .clock .0) (look-taken r k t (sym (look-answer r k t) ∙ e))
+accepted-clock r (Release i t) e = ap (λ (q : Record). q .clock .0) (release-taken r i (t .0) (sym (release-no r i t) ∙ e))
+accepted-clock r (Finish i t) e = ap (λ (q : Record). q .clock .0) (finish-taken r i (t .0) (sym (finish-no r i t) ∙ e))
+accepted-clock r (Look k t) e = ap (λ (q : Record). q .clock .0) (look-taken r k (t .0) (sym (look-no r k t) ∙ e))
 
 -- its time is not below the clock
 accepted-time : (r : Record) (c : Call) → callRefusal r c ≡ 0 → r .clock .0 ≤ timeOf c
-accepted-time r (release i t) e = release-passed r i t (sym (release-answer r i t) ∙ e) .0 .clock
-accepted-time r (finish i t) e = finish-passed r i t (sym (finish-answer r i t) ∙ e) .0 .clock
-accepted-time r (look k t) e = look-passed r k t (sym (look-answer r k t) ∙ e) .clock
+accepted-time r (Release i t) e = release-passed r i (t .0) (sym (release-no r i t) ∙ e) .0 .clock
+accepted-time r (Finish i t) e = finish-passed r i (t .0) (sym (finish-no r i t) ∙ e) .0 .clock
+accepted-time r (Look k t) e = look-passed r k (t .0) (sym (look-no r k t) ∙ e) .clock
 
 -- so the clock never falls
 pub step-clock : (r : Record) (c : Call) → r .clock .0 ≤ step r c .clock .0
@@ -56,9 +59,9 @@ clock-rises r (c ∷ cs) = le-trans (step-clock r c) (clock-rises (step r c) cs)
 
 -- the plan never changes
 accepted-plan : (r : Record) (c : Call) → callRefusal r c ≡ 0 → step r c .plan ≡ r .plan
-accepted-plan r (release i t) e = ap (λ (q : Record). q .plan) (release-taken r i t (sym (release-answer r i t) ∙ e))
-accepted-plan r (finish i t) e = ap (λ (q : Record). q .plan) (finish-taken r i t (sym (finish-answer r i t) ∙ e))
-accepted-plan r (look k t) e = ap (λ (q : Record). q .plan) (look-taken r k t (sym (look-answer r k t) ∙ e))
+accepted-plan r (Release i t) e = ap (λ (q : Record). q .plan) (release-taken r i (t .0) (sym (release-no r i t) ∙ e))
+accepted-plan r (Finish i t) e = ap (λ (q : Record). q .plan) (finish-taken r i (t .0) (sym (finish-no r i t) ∙ e))
+accepted-plan r (Look k t) e = ap (λ (q : Record). q .plan) (look-taken r k (t .0) (sym (look-no r k t) ∙ e))
 
 -- so no call changes it
 pub step-plan : (r : Record) (c : Call) → step r c .plan ≡ r .plan

@@ -18,7 +18,7 @@ use Rattle.dispatch.specs.Record.{lineAt, stateAt}
 use Rattle.dispatch.specs.Refusals.{lookRefusal}
 use Rattle.dispatch.specs.Look.{bestOf, choiceFor, choiceOf, lookOf}
 use Rattle.dispatch.specs.Shape.{Good}
-use Rattle.dispatch.specs.Choice.{deadlineAt, keyAt, UpperOn, LowerOn, FixedOn, Least, None, First, Answer, Chosen, as-upper, as-lower, as-fixed}
+use Rattle.dispatch.specs.Choice.{deadlineAt, keyAt, UpperOn, LowerOn, FixedOn, Least, None, First, TaskChoice, Chosen, as-upper, as-lower, as-fixed}
 use Rattle.dispatch.proofs.Held.{held}
 use Rattle.dispatch.proofs.Answers.{look-choice}
 use Rattle.soundness.proofs.SoundKept.{sound-kept}
@@ -77,7 +77,7 @@ module _ (r : Record) (g : Good r) (k : ℕ) where
       by-fixed i d (fixed-key f e) h = (f, omega arith)
 
   -- its key says what is answered
-  answer-for : (j d : ℕ) → d ≡ keyAt r k j → Keyed (lineAt r j) (stateAt r j) k → Answer r k j (choiceFor r (record { task = suc j; key = d }))
+  answer-for : (j d : ℕ) → d ≡ keyAt r k j → Keyed (lineAt r j) (stateAt r j) k → TaskChoice r k j (choiceFor r (record { task = suc j; key = d }))
   unfolding choiceFor
   answer-for j d q (upper-key u e) =
       let back : suc j - 1 ≡ j = omega arith in

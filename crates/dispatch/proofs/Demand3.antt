@@ -14,7 +14,8 @@ use Rattle.turn.specs.Runs.{coreOfRun, sent}
 use Rattle.turn.proofs.Fair.{rounded, in-a-row}
 use Rattle.dispatch.specs.Record.{recordOf}
 use Rattle.dispatch.specs.Shape.{Good}
-use Rattle.dispatch.specs.Calls.{Call, coresOf, sentTo, inARow}
+use Rattle.dispatch.specs.declared.call.Call.{Call}
+use Rattle.dispatch.specs.Calls.{coresOf, sentTo, inARow}
 use Rattle.soundness.proofs.Lined.{Lined}
 use Rattle.dispatch.proofs.Records.{task-in, task-lined, task-wide}
 use Rattle.dispatch.proofs.Fresh.{fresh-at}

@@ -21,7 +21,7 @@ abbrev pub orRefused : ℕ → Answer → Answer
 orRefused n taken = cond (eqb n 0) taken (Refused (refusal n 0))
 
 -- a call's answer and the record that it hands on
-unfoldable pub answeredOf : Record → Call → Answered
+abbrev pub answeredOf : Record → Call → Answered
 answeredOf r (Release i t) =
     let a = releaseOf r i (t .0) in
     record { answer = orRefused (a .refusal) (Released (a .core) (a .deadline)); next = a .next }
@@ -58,18 +58,18 @@ abbrev pub after : Record → List Call → Record
 after r [] = r
 after r (c ∷ cs) = after (step r c) cs
 
--- an answer's core, if it is that of an accepted release
+-- a call is a release of task i
+abbrev pub releases : ℕ → Call → Bool
+releases i (Release j t) = eqb j i
+releases i (Finish j t) = false
+releases i (Look k t) = false
+
+-- the core that an answer tells, if it is that of an accepted release
 abbrev pub coreIn : Answer → List ℕ
 coreIn (Refused x) = []
 coreIn (Released p d) = p ∷ []
 coreIn (Finished late) = []
 coreIn (Looked choice) = []
-
--- a call's task, if it is a release
-abbrev pub releases : ℕ → Call → Bool
-releases i (Release j t) = eqb j i
-releases i (Finish j t) = false
-releases i (Look k t) = false
 
 -- the core that a call answers, if it is an accepted release of task i
 abbrev pub coreBy : ℕ → Record → Call → List ℕ

@@ -6,7 +6,7 @@ use Rattle.scanning.proofs.Sought.{Sought, first, later, here, ended}
 use Rattle.calls_text.specs.Line.{callLine, lineAfter}
 use Rattle.calls_text.proofs.Lines.{ahead}
 use borrow.Author.Needs.{needs}
--- `input::calls::first_bad` meets its contract.
+-- `calls_text::calls::first_bad` meets its contract.
 use Rattle.calls_text.proofs.calls.first_bad.Statement.{statement}
 use Rattle.calls_text.proofs.calls.first_bad.Tie as tie
 
