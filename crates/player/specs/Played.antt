@@ -7,15 +7,20 @@ use lib.ListN.{length}
 use Rattle.dispatch.specs.declared.Record.{Record}
 use Rattle.dispatch.specs.declared.plan.Fresh.{Fresh}
 use Rattle.dispatch.specs.Record.{freshOf}
-use Rattle.dispatch.specs.Calls.{Call, step}
+use Rattle.dispatch.specs.declared.call.Call.{Call}
+use Rattle.dispatch.specs.Calls.{answeredOf, step}
 use Rattle.plan_answer.specs.Program.{refusalText, unreadableText}
 use Rattle.calls_text.specs.Input.{InputSays, plays, unplayable, inputOf, callsFrom}
 use Rattle.player.specs.Answers.{answerText}
 
+-- bytes of the answers to an input, at most
+abbrev pub answersLimit : ℕ
+answersLimit = 460000
+
 -- the answers of calls, each made on the record that the one before handed on
 unfoldable pub answersText : Record → List Call → List ℕ
 answersText r [] = []
-answersText r (c ∷ cs) = answerText r c ++ answersText (step r c) cs
+answersText r (c ∷ cs) = answerText (answeredOf r c .answer) ++ answersText (step r c) cs
 
 -- a table that is taken is played, another refused as by the program
 unfoldable pub freshText : Fresh → List Call → List ℕ

@@ -13,18 +13,18 @@ ghost use lib.ListN.{length};
 ghost use Rattle.writing.specs.Wrote.{Wrote};
 ghost use Rattle.table_text.specs.Text.{says};
 ghost use Rattle.calls_text.specs.Input.{inputLimit, plays, afterTable};
-ghost use Rattle.player.specs.Played.{givenText, playText};
+ghost use Rattle.player.specs.Played.{answersLimit, givenText, playText};
 
 // Bytes of an input, at most.
 pub const INPUT: usize = 65_536;
-// Bytes that any answer fits.
-pub const ANSWERS: usize = 524_288;
+// Bytes of the answers to an input, at most.
+pub const ANSWERS: usize = 460_000;
 
 // The calls after a table that can be read, whose text ends at a place.
 fn play_table(text: &[u8], place: usize, cores: u32, table: &[u32], out: &mut [u8]) -> usize
     requires { ⌜ (length (now text) ≤ inputLimit) × (length (now table) ≤ 2048) ⌝ }
     ensures { λ r. ⌜ Wrote (now (out .entry)) 0 (givenText (now (text .entry)) (afterTable (now (text .entry)) place (says cores (now (table .entry))))) (now (out .exit)) r ⌝ }
-    ensures { λ r. ⌜ r ≤ 460000 ⌝ }
+    ensures { λ r. ⌜ r ≤ answersLimit ⌝ }
 {
     let tasks = table.len() / 2;
     if text.len() <= place {
@@ -42,7 +42,7 @@ fn play_table(text: &[u8], place: usize, cores: u32, table: &[u32], out: &mut [u
 fn play_taken(text: &[u8], from: usize, cores: u32, table: &[u32], out: &mut [u8]) -> usize
     requires { ⌜ length (now text) ≤ inputLimit ⌝ }
     ensures { λ r. ⌜ Wrote (now (out .entry)) 0 (givenText (now (text .entry)) (plays cores (now (table .entry)) from)) (now (out .exit)) r ⌝ }
-    ensures { λ r. ⌜ r ≤ 460000 ⌝ }
+    ensures { λ r. ⌜ r ≤ answersLimit ⌝ }
 {
     let fresh = Record::fresh(cores, table);
     let refusal = fresh.refusal;
@@ -56,7 +56,7 @@ fn play_taken(text: &[u8], from: usize, cores: u32, table: &[u32], out: &mut [u8
 // The answers to an input's calls, or its refusal, and their length.
 pub fn play(text: &[u8], out: &mut [u8]) -> usize
     ensures { λ r. ⌜ Wrote (now (out .entry)) 0 (playText (now (text .entry))) (now (out .exit)) r ⌝ }
-    ensures { λ r. ⌜ r ≤ 460000 ⌝ }
+    ensures { λ r. ⌜ r ≤ answersLimit ⌝ }
 {
     if INPUT < text.len() {
         return put_unreadable(out, 0, 0);
