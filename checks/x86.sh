@@ -7,5 +7,5 @@ else
     tools=$kit/on/$(uname -m)/toolchain
     prefix=x86_64-linux-gnu- link=(-static) emulator=("$tools/bin/qemu-x86_64")
     loader=("${emulator[@]}" "$tools/lib/ld-linux-x86-64.so.2" --library-path "$tools/lib")
-    [ -x "${emulator[0]}" ] || { echo "the kit has no emulator for this machine, $(uname -m)" >&2; exit 1; }
+    [ -x "${emulator[0]}" ] || { echo "the kit has no emulator for this machine, $(uname -m)" >&2; exit 2; }
 fi

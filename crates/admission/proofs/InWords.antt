@@ -1,17 +1,17 @@
 -- What tests 1 to 4 answer where document 01's words apply.
 use Prim.Native.Nat.{ℕ, zero, suc, _+_, _*_, _%_, _≤_, _<_}
 use mathlib.Core.Path.{_≡_, refl, sym, _∙_}
-use mathlib.Core.Logic.{_⊎_, inl, inr}
+use mathlib.Core.Logic.{_⊎_, inl, inr, ⊎-elim}
 use mathlib.Core.Bool.{Bool, true, false, _||_}
 use mathlib.Core.List.{List}
 use native.Mathlib.Omega.{arith}
 use native.Mathlib.Numerals.{add-one}
 use lib.Dec.{ltb, eqb}
 use lib.ListN.{length, drop}
-use borrow.Author.Tests.{eq-eqb, ne-eqb, lt-ltb, le-ltb}
+use borrow.Author.Tests.{eq-eqb, ne-eqb, lt-ltb, le-ltb, eqb-true, ltb-true, ltb-false}
 use Rattle.units.specs.Limits.{coresLimit, tasksLimit, periodLimit}
-use Rattle.lists.proofs.Tests.{or-left, or-right, or-false}
-use Rattle.admission.specs.Refusals.{coresTest, tableTest, taskTest, tasksTest}
+use Rattle.lists.proofs.Tests.{or-left, or-right, or-cases, or-false, or-false-left, or-false-right}
+use Rattle.admission.specs.Refusals.{coresTest, noTable, tableTest, taskTest, tasksTest}
 use Rattle.units.specs.Refusals.{refusal, taken, coresNo, tableNo, rangeNo, costNo}
 use Rattle.admission.proofs.Tasks.{tasks-stop, tasks-go, tasks-end}
 use Rattle.units.specs.declared.refusal.Refusal.{Refusal}
@@ -50,6 +50,21 @@ pub table-out : (xs : List ℕ) → TableOut xs → tableTest xs ≡ refusal tab
 table-out xs o =
     let n : ℕ = length xs in
     rw (one-in (eqb n 0) (ltb (2 * tasksLimit) n) (eqb (n % 2) 1) (eq-eqb n 0) (lt-ltb (2 * tasksLimit) n) (eq-eqb (n % 2) 1) o)
+
+-- so many numbers that are no table, in the same words
+pub no-table : (xs : List ℕ) → noTable (length xs) ≡ true → TableOut xs
+no-table xs e =
+    let n : ℕ = length xs in
+    ⊎-elim
+    (λ f. ⊎-elim (λ g. inl (eqb-true n 0 g)) (λ g. inr (inl (ltb-true (2 * tasksLimit) n g))) (or-cases (eqb n 0) (ltb (2 * tasksLimit) n) f))
+    (λ f. inr (inr (eqb-true (n % 2) 1 f)))
+    (or-cases (eqb n 0 || ltb (2 * tasksLimit) n) (eqb (n % 2) 1) e)
+
+-- others are few
+pub table-few : (n : ℕ) → noTable n ≡ false → n ≤ 2 * tasksLimit
+table-few n e =
+    ltb-false (2 * tasksLimit) n
+    (or-false-right (eqb n 0) (ltb (2 * tasksLimit) n) (or-false-left (eqb n 0 || ltb (2 * tasksLimit) n) (eqb (n % 2) 1) e))
 
 module _ (xs : List ℕ) where
   -- task k in range does not fail test 3

@@ -1,6 +1,6 @@
 -- Planning's refusals, document 01, "Refusal numbers", in the order in which they are tested.
 use Prim.Native.Nat.{ℕ, suc, _*_, _%_}
-use mathlib.Core.Bool.{cond, _||_}
+use mathlib.Core.Bool.{Bool, cond, _||_}
 use mathlib.Core.List.{List, [], _∷_}
 use lib.Dec.{ltb, eqb}
 use lib.ListN.{length}
@@ -18,9 +18,13 @@ a orElse b = cond (eqb (a .no) 0) b a
 abbrev pub coresTest : ℕ → Refusal
 coresTest m = cond (eqb m 0 || ltb coresLimit m) (refusal coresNo 0) taken
 
+-- so many numbers are no table: none, over 64 tasks, or ending inside a task
+abbrev pub noTable : ℕ → Bool
+noTable n = eqb n 0 || ltb (2 * tasksLimit) n || eqb (n % 2) 1
+
 -- 2: table empty, over 64 tasks, or ending inside a task
 abbrev pub tableTest : List ℕ → Refusal
-tableTest xs = cond (eqb (length xs) 0 || ltb (2 * tasksLimit) (length xs) || eqb (length xs % 2) 1) (refusal tableNo 0) taken
+tableTest xs = cond (noTable (length xs)) (refusal tableNo 0) taken
 
 -- 3: a task has cost 0, period 0 or period above its limit; 4: its cost exceeds its period
 abbrev pub taskTest : ℕ → ℕ → ℕ → Refusal

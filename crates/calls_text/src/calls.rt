@@ -1,9 +1,9 @@
 // Where the calls stand in an input, and whether each can be read.
 use crate::line::line_after;
 use crate::line::read_call;
-use scanning::line::NEWLINE;
 use scanning::word::Word;
 use scanning::word::read_word;
+use writing::NEWLINE;
 ghost use mathlib.Core.Path.{_≡_};
 ghost use Prim.Native.Nat.{_<_, _≤_};
 ghost use lib.ListN.{length};

@@ -1,29 +1,22 @@
 -- The answers of the host's calls, from planning's and the listing's.
-use Prim.Native.Nat.{ℕ, zero, suc, _<_, _^_}
-use mathlib.Core.Path.{_≡_, refl, sym, ap, _∙_, subst⁻¹}
+use Prim.Native.Nat.{ℕ, zero, suc}
+use mathlib.Core.Path.{_≡_, refl, sym, ap, _∙_}
 use mathlib.Core.Logic.{⊎-elim}
-use mathlib.Core.Bool.{true}
 use mathlib.Core.List.{List}
 use native.Mathlib.Omega.{arith}
-use lib.IntN.{ℤ, pos, negsuc, subℕ}
+use lib.IntN.{pos, negsuc, subℕ}
 use lib.ListN.{length}
 use borrow.Author.Tests.{lt-ltb, eq-eqb, ne-eqb}
 use Rattle.admission.specs.Admission.{planRefusal, admissionOf}
 use Rattle.admission.specs.declared.admit.Admission.{Admission}
 use Rattle.admission.proofs.Answers.{says-refusal}
-use Rattle.planning.specs.declared.Plan.{Plan}
-use Rattle.planning.specs.declared.Planned.{Planned}
-use Rattle.planning.specs.Plan.{planOf}
-use Rattle.soundness.proofs.Taken.{plan-number}
-use Rattle.soundness.proofs.PlannedSound.{plan-sound}
-use Rattle.soundness.specs.Plan.{planSound}
 use Rattle.listing.specs.declared.listed.Listed.{Listed}
-use Rattle.listing.specs.Listed.{planListed, planAfter}
+use Rattle.listing.specs.Listed.{tableListed, tableAfter}
 use Rattle.host.specs.Host.{tableIn, admitOf, negative, answered, hostListed, hostAfter}
-use Rattle.host.specs.Table.{heldOf}
+use Rattle.host.specs.Inner.{heldOf}
+use Rattle.admission.specs.Words.{TableOut}
 use Rattle.host.proofs.Held.{held-or}
 use Rattle.host.proofs.Out.{out-same, out-refused}
-use Rattle.host.proofs.Short.{plan-short}
 
 -- what the code subtracts from 0
 pub from-zero : (n : ℕ) → subℕ 0 n ≡ negative n
@@ -31,14 +24,24 @@ from-zero zero = refl
 from-zero (suc n) = rw (lt-ltb 0 (suc n) (omega arith)) (ap negsuc (omega arith))
 
 -- a refusal is answered negative
-pub answered-no : (l : Listed) → (l .refusal ≡ 0 → ⊥) → negative (l .refusal) ≡ answered l
+pub answered-no : (l : Listed) → (l .refusal .no ≡ 0 → ⊥) → negative (l .refusal .no) ≡ answered l
 unfolding answered
-answered-no l n = rw (ne-eqb (l .refusal) 0 n)
+answered-no l n = rw (ne-eqb (l .refusal .no) 0 n)
 
 -- none gives the length
-pub answered-length : (l : Listed) → l .refusal ≡ 0 → pos (l .length) ≡ answered l
+pub answered-length : (l : Listed) → l .refusal .no ≡ 0 → pos (l .length) ≡ answered l
 unfolding answered
-answered-length l e = rw (eq-eqb (l .refusal) 0 e)
+answered-length l e = rw (eq-eqb (l .refusal .no) 0 e)
+
+-- no table is answered by its refusal
+out-listed : (m : ℕ) (xs : List ℕ) → TableOut xs → (room : ℕ) → answered (tableListed m xs room) ≡ negative (planRefusal m xs .no)
+unfolding answered tableListed
+out-listed m xs o room = let z = ne-eqb (planRefusal m xs .no) 0 (out-refused m xs o) in rw (z, z)
+
+-- and changes no byte
+out-after : (m : ℕ) (xs : List ℕ) → TableOut xs → (buf : List ℕ) → tableAfter m xs buf ≡ buf
+unfolding tableAfter
+out-after m xs o buf = rw (ne-eqb (planRefusal m xs .no) 0 (out-refused m xs o))
 
 module _ (m : ℕ) (bytes : List ℕ) where
   -- the numbers held are refused as the table is
@@ -50,48 +53,27 @@ module _ (m : ℕ) (bytes : List ℕ) where
       (λ o. out-same m (heldOf bytes) (tableIn bytes) (o .0) (o .1))
       (held-or bytes)
 
-  -- and taken they are the table
-  held-taken : planRefusal m (heldOf bytes) .no ≡ 0 → heldOf bytes ≡ tableIn bytes
-  held-taken t = ⊎-elim (λ e. e) (λ o. absurd (out-refused m (heldOf bytes) (o .0) t)) (held-or bytes)
-
   -- admission's number
   pub admitted : (a : Admission) → a ≡ admissionOf m (heldOf bytes) → a .refusal .no ≡ admitOf m bytes
   admitted a e = ap (λ (x : Admission). x .refusal .no) e ∙ says-refusal m (heldOf bytes) ∙ held-number
 
-  -- planning's answer
-  module _ (p : Planned) (e : p ≡ planOf m (heldOf bytes)) where
-    number : p .refusal .no ≡ admitOf m bytes
-    number = ap (λ (x : Planned). x .refusal .no) e ∙ plan-number m (heldOf bytes) ∙ held-number
+  -- what is listed of them is what is listed of the table
+  pub listed-same : (room : ℕ) → answered (tableListed m (heldOf bytes) room) ≡ hostListed m bytes room
+  unfolding hostListed
+  listed-same room =
+      ⊎-elim
+      (λ e. ap (λ (xs : List ℕ). answered (tableListed m xs room)) e)
+      (λ o.
+      out-listed m (heldOf bytes) (o .0) room
+      ∙ ap negative (out-same m (heldOf bytes) (tableIn bytes) (o .0) (o .1))
+      ∙ sym (out-listed m (tableIn bytes) (o .1) room))
+      (held-or bytes)
 
-    -- refused
-    pub refused : (buf : List ℕ) → (p .refusal .no ≡ 0 → ⊥)
-        → (negative (p .refusal .no) ≡ hostListed m bytes (length buf)) × (buf ≡ hostAfter m bytes buf)
-    unfolding hostListed hostAfter
-    refused buf n =
-        let z = ne-eqb (admitOf m bytes) 0 (λ q. n (number ∙ q)) in
-        (rw z (ap negative number), rw z)
-
-    module _ (t : p .refusal .no ≡ 0) where
-      none : planRefusal m (heldOf bytes) .no ≡ 0
-      none = held-number ∙ sym number ∙ t
-
-      plan-is : p .plan ≡ planOf m (tableIn bytes) .plan
-      plan-is = ap (λ (x : Planned). x .plan) e ∙ ap (λ (xs : List ℕ). planOf m xs .plan) (held-taken none)
-
-      -- taken: the plan is sound
-      pub sound : planSound (p .plan) ≡ true
-      sound = subst⁻¹ (λ (x : Planned). planSound (x .plan) ≡ true) e (plan-sound m (heldOf bytes) none)
-
-      -- its listing is no longer than a signed number says
-      pub short : (l : Listed) (room : ℕ) → l ≡ planListed (p .plan) room → l .length < 2 ^ 63
-      short l room f = plan-short m (heldOf bytes) none l room (f ∙ ap (λ (x : Planned). planListed (x .plan) room) e)
-
-      -- and is what is listed
-      pub taken : (buf : List ℕ) {after : List ℕ} {l : Listed} {r : ℤ} → l ≡ planListed (p .plan) (length buf) → after ≡ planAfter (p .plan) buf → r ≡ answered l
-          → (r ≡ hostListed m bytes (length buf)) × (after ≡ hostAfter m bytes buf)
-      unfolding hostListed hostAfter
-      taken buf f g h =
-          let z = eq-eqb (admitOf m bytes) 0 (sym number ∙ t) in (
-            rw z (h ∙ ap answered (f ∙ ap (λ (pl : Plan). planListed pl (length buf)) plan-is)),
-            rw z (g ∙ ap (λ (pl : Plan). planAfter pl buf) plan-is),
-          )
+  -- and so is the buffer after it
+  pub after-same : (buf : List ℕ) → tableAfter m (heldOf bytes) buf ≡ hostAfter m bytes buf
+  unfolding hostAfter
+  after-same buf =
+      ⊎-elim
+      (λ e. ap (λ (xs : List ℕ). tableAfter m xs buf) e)
+      (λ o. out-after m (heldOf bytes) (o .0) buf ∙ sym (out-after m (tableIn bytes) (o .1) buf))
+      (held-or bytes)

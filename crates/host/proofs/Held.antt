@@ -1,36 +1,42 @@
 -- A table's numbers as the code holds them.
 use Prim.Native.Nat.{ℕ, _*_, _-_, _/_, _%_, _≤_}
-use mathlib.Core.Path.{_≡_, refl}
-use mathlib.Core.Bool.{Bool, true, false, not, _||_}
+use mathlib.Core.Path.{_≡_, refl, sym}
+use mathlib.Core.Bool.{Bool, true, false, not}
 use mathlib.Core.Logic.{_⊎_, inl, inr}
 use mathlib.Core.List.{List}
 use native.Mathlib.Nat.{sub-zero}
 use native.Mathlib.Omega.{arith}
-use lib.Dec.{eqb, ltb}
+use lib.Dec.{eqb}
 use lib.ListN.{length, take, drop, length-append}
 use lib.Seq.{take-append-seam}
-use borrow.Author.Tests.{eqb-true, ltb-true, ltb-false}
+use borrow.Author.Tests.{eqb-true}
 use Rattle.units.specs.Limits.{tasksLimit}
 use Rattle.lists.specs.Lists.{zeros}
-use Rattle.lists.proofs.Tests.{by-cases, or-false-right}
+use Rattle.lists.proofs.Tests.{by-cases, or-false-left, or-false-right}
 use Rattle.admission.specs.Words.{TableOut}
-use Rattle.host.specs.Host.{numbersOf, tableIn}
-use Rattle.host.specs.Table.{filled, heldOf, heldTable}
+use Rattle.little_endian.specs.Number.{numbersOf}
+use Rattle.admission.specs.Refusals.{noTable}
+use Rattle.admission.proofs.InWords.{no-table, table-few}
+use Rattle.host.specs.Host.{tableIn}
+use Rattle.host.specs.Inner.{filled, unread, heldOf, heldTable}
 use Rattle.host.specs.declared.bytes.Table.{Table}
 use Rattle.host.proofs.Numbers.{numbers-length}
 
--- the table ends inside a task or has over 64 tasks
-abbrev pub unread : List ℕ → Bool
-unread bytes = not (eqb (length bytes % 8) 0) || ltb (8 * tasksLimit) (length bytes)
-
--- then no number is held
+-- of a table that is none no number is held
 pub none-held : (bytes : List ℕ) → unread bytes ≡ true → record { numbers = zeros (2 * tasksLimit); count = 0 } ≡ heldTable bytes
 unfolding heldTable heldOf
 none-held bytes e = rw e
 
 -- else there is room for all
 pub room : (bytes : List ℕ) → unread bytes ≡ false → length bytes ≤ 8 * tasksLimit
-room bytes e = ltb-false (8 * tasksLimit) (length bytes) (or-false-right (not (eqb (length bytes % 8) 0)) (ltb (8 * tasksLimit) (length bytes)) e)
+room bytes e =
+    let four = or-false-left (not (eqb (length bytes % 4) 0)) (noTable (length bytes / 4)) e in
+    let few = table-few (length bytes / 4) (or-false-right (not (eqb (length bytes % 4) 0)) (noTable (length bytes / 4)) e) in
+    omega (arith, few, eqb-true (length bytes % 4) 0 (not-not (eqb (length bytes % 4) 0) four))
+  where
+    not-not : (b : Bool) → not b ≡ false → b ≡ true
+    not-not true e = refl
+    not-not false e = sym e
 
 -- and all are held
 pub all-held : (bytes : List ℕ) → unread bytes ≡ false → (xs : List ℕ) → xs ≡ filled (numbersOf bytes)
@@ -59,8 +65,8 @@ part bytes t e = rw (e, sub-zero (length (heldOf bytes))) (take-append-seam (hel
 pub held-or : (bytes : List ℕ) → (heldOf bytes ≡ tableIn bytes) ⊎ (TableOut (heldOf bytes) × TableOut (tableIn bytes))
 unfolding heldOf tableIn
 held-or bytes =
-    by-cases (eqb (length bytes % 8) 0)
-    (λ e. by-cases (ltb (8 * tasksLimit) (length bytes))
-    (λ h. inr (rw (e, h) (inl refl), rw e (inr (inl (omega (arith, numbers-length bytes, eqb-true (length bytes % 8) 0 e, ltb-true (8 * tasksLimit) (length bytes) h))))))
+    by-cases (eqb (length bytes % 4) 0)
+    (λ e. by-cases (noTable (length bytes / 4))
+    (λ h. inr (rw (e, h) (inl refl), rw e (no-table (numbersOf bytes) (rw (numbers-length bytes) h))))
     (λ h. inl (rw (e, h))))
     (λ e. inl (rw e))

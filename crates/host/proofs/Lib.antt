@@ -1,7 +1,6 @@
 pub mod Numbers
 pub mod Held
 pub mod Out
-pub mod Short
 pub mod Answers
 pub mod Words
 pub mod Examples

@@ -8,8 +8,8 @@ use lib.Seq.{drop-cons}
 use Rattle.units.specs.Limits.{tasksLimit}
 use Rattle.lists.specs.Lists.{zeros}
 use Rattle.lists.proofs.Filled.{Filled, empty, next, full}
-use Rattle.host.specs.Host.{numbersOf}
-use Rattle.host.specs.Table.{number32At, filled}
+use Rattle.little_endian.specs.Number.{numbersOf, number32At}
+use Rattle.host.specs.Inner.{filled}
 
 -- a number for every four bytes
 pub numbers-length : (bytes : List ℕ) → length (numbersOf bytes) ≡ length bytes / 4
@@ -20,7 +20,7 @@ numbers-length (a ∷ b ∷ c ∷ []) = refl
 numbers-length (a ∷ b ∷ c ∷ d ∷ bytes) = omega (arith, numbers-length bytes)
 
 -- from number k on: its four bytes, then the numbers after it
-number-drop : (bytes : List ℕ) (k : ℕ) → 4 * k + 3 < length bytes → numbersOf (drop (4 * k) bytes) ≡ number32At bytes k ∷ numbersOf (drop (4 * (k + 1)) bytes)
+number-drop : (bytes : List ℕ) (k : ℕ) → 4 * k + 3 < length bytes → numbersOf (drop (4 * k) bytes) ≡ number32At bytes (4 * k) ∷ numbersOf (drop (4 * (k + 1)) bytes)
 number-drop bytes k h =
     let one : suc (4 * k) ≡ 4 * k + 1 = omega arith in
     let two : suc (4 * k + 1) ≡ 4 * k + 2 = omega arith in
@@ -44,7 +44,7 @@ Filling bytes xs k = Filled 0 (2 * tasksLimit) (numbersOf bytes) xs (numbersOf (
 pub start : (bytes : List ℕ) → Filling bytes (zeros (2 * tasksLimit)) 0
 start bytes = empty 0 (2 * tasksLimit) (numbersOf bytes)
 
-pub step : (bytes xs : List ℕ) (k x : ℕ) → Filling bytes xs k → 4 * k + 3 < length bytes → k < 2 * tasksLimit → x ≡ number32At bytes k
+pub step : (bytes xs : List ℕ) (k x : ℕ) → Filling bytes xs k → 4 * k + 3 < length bytes → k < 2 * tasksLimit → x ≡ number32At bytes (4 * k)
     → Filling bytes (set xs k x) (k + 1)
 step bytes xs k x f h m e =
     next 0 (2 * tasksLimit) (numbersOf bytes) xs (numbersOf (drop (4 * (k + 1)) bytes)) k x

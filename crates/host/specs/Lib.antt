@@ -1,3 +1,3 @@
 pub mod Host
-pub mod Table
+pub mod Inner
 pub mod Words

@@ -2,8 +2,7 @@
 use crate::bytes::table_of;
 use admission::admit::admit;
 use listing::listed::Listed;
-use listing::listed::list_plan;
-use planning::plan_of;
+use listing::listed::list_table;
 ghost use mathlib.Core.Path.{_≡_};
 ghost use Prim.Native.Nat.{_<_, _^_};
 ghost use lib.ListN.{length};
@@ -23,8 +22,8 @@ fn answer_of(listed: Listed) -> i64
     requires { ⌜ listed .length < 2 ^ 63 ⌝ }
     ensures { λ r. ⌜ r ≡ answered listed ⌝ }
 {
-    if listed.refusal != 0 {
-        return negative(listed.refusal);
+    if listed.refusal.no != 0 {
+        return negative(listed.refusal.no);
     }
     listed.length as i64
 }
@@ -51,12 +50,6 @@ pub extern "C" fn yagomila_listing(cores: u32, table: &[u8], buf: &mut [u8]) -> 
     let held = table_of(table);
     let numbers = held.numbers;
     let count = held.count;
-    let answer = plan_of(cores, &numbers[0..count]);
-    let refusal = answer.refusal;
-    if refusal.no != 0 {
-        return negative(refusal.no);
-    }
-    let plan = answer.plan;
-    let listed = list_plan(plan, buf);
+    let listed = list_table(cores, &numbers[0..count], buf);
     answer_of(listed)
 }

@@ -29,7 +29,7 @@ use Rattle.dispatch.specs.Shape.{Good}
 use Rattle.planning.specs.Shape.{PlanShaped}
 use Rattle.soundness.proofs.SoundKept.{sound-kept}
 use Rattle.dispatch.proofs.Held.{held}
-use Rattle.listing.specs.Listed.{planListed, listedOf}
+use Rattle.listing.specs.Listed.{listingLimit, listedWhole, planListed, listedOf}
 use Rattle.writing.specs.Field.{field, lineEnd}
 use Rattle.listing.specs.Listing.{shareText, sharesText, headText, rowText, lateText, taskText, tasksText, listingText}
 
@@ -105,7 +105,7 @@ module _ (pl : Plan) (long : PlanShaped pl) (s : planSound pl ≡ true) where
       ))
 
   -- the listing of a sound plan
-  pub listing-length : length (listingText pl) ≤ 15960
+  pub listing-length : length (listingText pl) ≤ listingLimit
   unfolding listingText
   listing-length =
       let a = field "cores " (pl .cores) in
@@ -120,8 +120,8 @@ module _ (pl : Plan) (long : PlanShaped pl) (s : planSound pl ≡ true) where
         tasks-few pl s,
       ))
 
--- so a sound record is listed in any buffer of 15,960 bytes
-pub fits : (r : Record) → Good r → (room : ℕ) → 15960 ≤ room → listedOf r room ≡ record { refusal = 0; length = length (listingText (r .plan)) }
+-- so a sound record is listed in any buffer of so many bytes
+pub fits : (r : Record) → Good r → (room : ℕ) → listingLimit ≤ room → listedOf r room ≡ listedWhole (length (listingText (r .plan)))
 unfolding listedOf planListed
 fits r g room h =
     let f = listing-length (r .plan) (g .shaped .plan) (held r (g .sound) .plan) in

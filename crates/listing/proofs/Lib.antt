@@ -7,3 +7,4 @@ pub mod Digits
 pub mod Shares
 pub mod Line
 pub mod Listing
+pub mod TableFits

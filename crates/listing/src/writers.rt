@@ -5,6 +5,7 @@ use planning::Plan;
 use units::limits::CORES;
 use units::limits::TASKS;
 use units::share::Share;
+use writing::NEWLINE;
 use writing::put_byte;
 use writing::put_field;
 use writing::put_signed;
@@ -88,7 +89,7 @@ fn put_late(buf: &mut [u8], at: usize, late: i64) -> usize
 {
     let a = put_text(buf, at, b" late ");
     let b = put_signed(buf, a, late);
-    put_byte(buf, b, 10)
+    put_byte(buf, b, NEWLINE)
 }
 
 // A task's line.
@@ -135,6 +136,6 @@ pub fn put_plan(buf: &mut [u8], plan: Plan, lates: [i64; TASKS]) -> usize
     let lines = plan.lines;
     let a = put_field(buf, 0, b"cores ", plan.cores as u64);
     let b = put_field(buf, a, b" common ", plan.common as u64);
-    let c = put_byte(buf, b, 10);
+    let c = put_byte(buf, b, NEWLINE);
     put_tasks(buf, c, lines, lates, plan.count)
 }

@@ -5,6 +5,7 @@ use planning::plan_of;
 use table_text::Reading;
 use table_text::read_text;
 use units::refusal::Refusal;
+use writing::NEWLINE;
 use writing::put_byte;
 use writing::put_field;
 ghost use Prim.Native.Nat.{_+_, _≤_};
@@ -26,10 +27,10 @@ pub fn put_refusal(buf: &mut [u8], at: usize, refusal: Refusal) -> usize
 {
     let a = put_field(buf, at, b"refused ", refusal.no as u64);
     if refusal.task == 0 {
-        return put_byte(buf, a, 10);
+        return put_byte(buf, a, NEWLINE);
     }
     let b = put_field(buf, a, b" task ", refusal.task as u64);
-    put_byte(buf, b, 10)
+    put_byte(buf, b, NEWLINE)
 }
 
 // The line of an unreadable text.
@@ -39,7 +40,7 @@ pub fn put_unreadable(buf: &mut [u8], at: usize, line: usize) -> usize
     ensures { λ r. ⌜ r ≤ at + 60 ⌝ }
 {
     let a = put_field(buf, at, b"refused 16 line ", line as u64);
-    put_byte(buf, a, 10)
+    put_byte(buf, a, NEWLINE)
 }
 
 // Planning's answer to a table.

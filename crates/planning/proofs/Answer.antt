@@ -52,3 +52,8 @@ module _ (m : ℕ) (xs : List ℕ) (a : Admission) (e : a ≡ admissionOf m xs) 
     -- of few cores and few tasks
     pub taken-few : (m ≤ coresLimit) × (length xs ≤ 2 * tasksLimit)
     taken-few = let k : Kept m xs = kept m xs (passed m xs none .0) in (k .cores-few, k .tasks-few)
+
+-- a refusal that planning answers is the first that applies
+pub refused-is : (m : ℕ) (xs : List ℕ) → (planRefusal m xs .no ≡ 0 → ⊥) → planOf m xs .refusal ≡ planRefusal m xs
+unfolding planOf refusedPlan
+refused-is m xs n = rw (ne-eqb (planRefusal m xs .no) 0 n)

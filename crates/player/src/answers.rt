@@ -3,11 +3,12 @@ use dispatch::call::Answer;
 use dispatch::look::Choice;
 use dispatch::look::Side;
 use units::ticks::Ticks;
+use writing::NEWLINE;
 use writing::put_byte;
 use writing::put_field;
-use writing::put_refusal;
 use writing::put_signed;
 use writing::put_text;
+use writing::refused::put_refusal;
 ghost use Prim.Native.Nat.{_+_, _≤_};
 ghost use mathlib.Core.List.{_++_};
 ghost use Rattle.writing.specs.Decimal.{decimalOf};
@@ -63,16 +64,16 @@ pub fn put_answer(buf: &mut [u8], at: usize, answer: Answer) -> usize
         Answer::Released(core, deadline) => {
             let a = put_field(buf, at, b"core ", core as u64);
             let b = put_field(buf, a, b" deadline ", deadline.0);
-            put_byte(buf, b, 10)
+            put_byte(buf, b, NEWLINE)
         }
         Answer::Finished(late) => {
             let a = put_text(buf, at, b"late ");
             let b = put_signed(buf, a, late);
-            put_byte(buf, b, 10)
+            put_byte(buf, b, NEWLINE)
         }
         Answer::Looked(choice) => {
             let a = put_choice(buf, at, choice);
-            put_byte(buf, a, 10)
+            put_byte(buf, a, NEWLINE)
         }
     }
 }

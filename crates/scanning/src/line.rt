@@ -1,17 +1,14 @@
 // Reading a line.
 use crate::number::Number;
 use crate::number::read_number;
+use writing::BLANK;
+use writing::NEWLINE;
 ghost use mathlib.Core.Path.{_≡_};
 ghost use Prim.Native.Nat.{_<_};
 ghost use lib.ListN.{getD};
 ghost use Rattle.writing.specs.Ascii.{newline};
 ghost use Rattle.scanning.specs.Number.{Bound};
 ghost use Rattle.scanning.specs.Line.{fieldAt, secondAfter, pairAt};
-
-// The byte between two numbers.
-const BLANK: u8 = 32;
-// The byte that ends a line.
-pub const NEWLINE: u8 = 10;
 
 // Two numbers, and the place after their line.
 pub enum Pair {

@@ -2,6 +2,8 @@
 use dispatch::call::Answer;
 use dispatch::look::Choice;
 use dispatch::look::Side;
+use writing::BLANK;
+use writing::NEWLINE;
 use writing::put_byte;
 use writing::put_number;
 use writing::put_signed;
@@ -14,7 +16,7 @@ fn put_word(buf: &mut [u8], at: usize, n: u64) -> usize
     ensures { λ r. ⌜ r ≤ at + 21 ⌝ }
 {
     let next = put_number(buf, at, n);
-    put_byte(buf, next, 32)
+    put_byte(buf, next, BLANK)
 }
 
 // A refusal and three numbers.
@@ -35,7 +37,7 @@ fn put_late(buf: &mut [u8], at: usize, late: i64) -> usize
 {
     let w = put_word(buf, at, 0);
     let x = put_signed(buf, w, late);
-    let y = put_byte(buf, x, 32);
+    let y = put_byte(buf, x, BLANK);
     let z = put_word(buf, y, 0);
     put_word(buf, z, 0)
 }
@@ -75,5 +77,5 @@ pub fn put_line(buf: &mut [u8], sound: bool, answer: Answer, sum: u64) -> usize
     let a = put_word(buf, 0, sound as u64);
     let b = put_answer(buf, a, answer);
     let c = put_number(buf, b, sum);
-    put_byte(buf, c, 10)
+    put_byte(buf, c, NEWLINE)
 }

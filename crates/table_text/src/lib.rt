@@ -1,9 +1,9 @@
 // Reading the program's text: a core count and a table, or the line that cannot be read.
-use scanning::line::NEWLINE;
 use scanning::line::Pair;
 use scanning::line::read_field;
 use scanning::line::read_pair;
 use scanning::number::Number;
+use writing::NEWLINE;
 ghost use mathlib.Core.Path.{_≡_};
 ghost use lib.ListN.{length, set};
 ghost use lib.Seq.{sets};

@@ -13,7 +13,6 @@ use crate::script::script_of;
 use calls_text::calls::calls_place;
 use dispatch::Record;
 use plan_answer::NUMBERS;
-use scanning::line::NEWLINE;
 use scanning::line::read_field;
 use scanning::number::Number;
 use streams::Input;
@@ -21,6 +20,8 @@ use streams::read_input;
 use streams::write_output;
 use table_text::Reading;
 use table_text::read_text;
+use writing::BLANK;
+use writing::NEWLINE;
 use writing::put_byte;
 use writing::put_number;
 use writing::put_signed;
@@ -54,9 +55,9 @@ fn laps(kind: u8, rounds: u64, text: &[u8], cores: u32, table: &[u32]) -> u64 {
 fn report(before: i64, after: i64, sum: u64) {
     let mut line = [0u8; 100];
     let a = put_signed(&mut line, 0, before);
-    let b = put_byte(&mut line, a, 32);
+    let b = put_byte(&mut line, a, BLANK);
     let c = put_signed(&mut line, b, after);
-    let d = put_byte(&mut line, c, 32);
+    let d = put_byte(&mut line, c, BLANK);
     let e = put_number(&mut line, d, sum);
     let f = put_byte(&mut line, e, NEWLINE);
     if f <= 100 {

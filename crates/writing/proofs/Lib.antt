@@ -6,3 +6,4 @@ pub mod Back
 pub mod Plain
 pub mod SignedBack
 pub mod Examples
+pub mod RefusalTexts

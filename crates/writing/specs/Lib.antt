@@ -4,3 +4,4 @@ pub mod Decimal
 pub mod Field
 pub mod Wrote
 pub mod Value
+pub mod Refused

@@ -1,4 +1,6 @@
 // Writers of text into a lent buffer. Each stores as much as fits and answers the index after its text.
+pub mod refused;
+
 ghost use mathlib.Core.Path.{_≡_};
 ghost use mathlib.Core.List.{[], _∷_, _++_};
 ghost use Prim.Native.Nat.{_+_, _≤_};
@@ -7,6 +9,11 @@ ghost use lib.IntN.{natAbs};
 ghost use Rattle.writing.specs.Limits.{placeLimit};
 ghost use Rattle.writing.specs.Decimal.{decimalOf, signedOf};
 ghost use Rattle.writing.specs.Wrote.{Wrote};
+
+// The byte between two numbers.
+pub const BLANK: u8 = 32;
+// The byte that ends a line.
+pub const NEWLINE: u8 = 10;
 
 // One byte.
 pub fn put_byte(buf: &mut [u8], at: usize, b: u8) -> usize

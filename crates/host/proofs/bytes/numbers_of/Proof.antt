@@ -17,8 +17,11 @@ abbrev μ-loop : tie.MeasureT-loop
 loop-holds : tie.Need-loop-holds Inv-loop μ-loop
 loop-holds c = (refl, omega arith, start (c .before .args .bytes .now))
 
-number-at-requires : tie.Need-number-at-requires Inv-loop μ-loop
-number-at-requires c κs = search needs
+mul-number32 : tie.Need-mul-number32 Inv-loop μ-loop
+mul-number32 c = search needs
+
+number32-requires : tie.Need-number32-requires Inv-loop μ-loop
+number32-requires c κs = search needs
 
 mul-numbers : tie.Need-mul-numbers Inv-loop μ-loop
 mul-numbers c = search needs
@@ -36,7 +39,7 @@ loop-again : tie.Need-loop-again Inv-loop μ-loop
 loop-again c =
     let l = c .before .before .loop in
     let s = c .before .before .before .before in
-    (refl, omega arith, step (s .args .bytes .now) (l .numbers) (l .k) (c .number-at .result) (l .inv .2) (omega arith) (omega (arith, s .pre)) (c .number-at .ensures))
+    (refl, omega arith, step (s .args .bytes .now) (l .numbers) (l .k) (c .number32 .result) (l .inv .2) (omega arith) (omega (arith, s .pre)) (c .number32 .ensures))
 
 returns : tie.Need-returns Inv-loop μ-loop
 returns c =
@@ -51,7 +54,8 @@ numbers-of-spec =
     Inv-loop
     μ-loop
     loop-holds
-    number-at-requires
+    mul-number32
+    number32-requires
     mul-numbers
     array-write-numbers
     add-k

@@ -10,11 +10,16 @@ use Rattle.listing.proofs.listed.list.Tie as tie
 sound-requires : tie.Need-sound-requires
 sound-requires c κs = search needs
 
+unlisted-requires : tie.Need-unlisted-requires
+unlisted-requires c κs = search needs
+
 returns : tie.Need-returns
 returns c =
-    let q = c .before in
+    let i = c .before in
+    let q = i .before in
     let s = q .before .before in
-    unsound (s .args .from) (s .args .buf .now) (sym (q .sound .ensures) ∙ not-true (q .sound .result) (c .if1 .taken))
+    let a = unsound (s .args .from) (s .args .buf .now) (sym (q .sound .ensures) ∙ not-true (q .sound .result) (i .if1 .taken)) in
+    (c .unlisted .ensures ∙ a .0, a .1)
 
 list-plan-requires : tie.Need-list-plan-requires
 list-plan-requires c κs =
@@ -33,4 +38,4 @@ returns-2 c =
     sound (s .args .from) (s .args .buf .now) (sym (i .before .sound .ensures) ∙ not-false (i .before .sound .result) (i .if1 .left)) (p .list-plan .ensures .0) (p .list-plan .ensures .1)
 
 pub list-spec : {M : Type 1} → statement M
-list-spec = tie.close (tie.spec sound-requires returns list-plan-requires same-length returns-2)
+list-spec = tie.close (tie.spec sound-requires unlisted-requires returns list-plan-requires same-length returns-2)

@@ -49,11 +49,16 @@ put-plan-requires-2 c κs =
     let s = b .before .before in
     (tasks-few (s .args .plan) (s .pre), search needs)
 
+unlisted-requires : tie.Need-unlisted-requires
+unlisted-requires c κs = search needs
+
 returns-2 : tie.Need-returns-2
 returns-2 c =
-    let p = c .before .before in
+    let i = c .before in
+    let p = i .before .before in
     let s = p .before .before .before .before .before in
-    too-long (s .args .plan) (s .args .buf .now) (p .put-plan2 .ensures .0 .end) (c .if2 .taken)
+    let a = too-long (s .args .plan) (s .args .buf .now) (p .put-plan2 .ensures .0 .end) (i .if2 .taken) in
+    (c .unlisted .ensures ∙ a .0, a .1)
 
 put-plan-requires-3 : tie.Need-put-plan-requires-3
 put-plan-requires-3 c κs =
@@ -82,6 +87,7 @@ list-plan-spec =
     returns
     slice-aggregate-put-plan
     put-plan-requires-2
+    unlisted-requires
     returns-2
     put-plan-requires-3
     same-length-2

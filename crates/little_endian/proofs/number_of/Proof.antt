@@ -1,8 +1,8 @@
--- `host::bytes::number_of` meets its contract.
+-- `little_endian::number_of` meets its contract.
 use native.Mathlib.Omega.{arith}
 use borrow.Author.Needs.{needs}
-use Rattle.host.proofs.bytes.number_of.Statement.{statement}
-use Rattle.host.proofs.bytes.number_of.Tie as tie
+use Rattle.little_endian.proofs.number_of.Statement.{statement}
+use Rattle.little_endian.proofs.number_of.Tie as tie
 
 mul-result : tie.Need-mul-result
 mul-result c = search needs
