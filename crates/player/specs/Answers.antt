@@ -5,7 +5,7 @@ use mathlib.Core.List.{List, _++_}
 use Rattle.writing.specs.Ascii.{ascii}
 use Rattle.writing.specs.Decimal.{signedOf}
 use Rattle.writing.specs.Field.{field, lineEnd}
-use Rattle.writing.specs.Refusal.{refusalText}
+use Rattle.writing.specs.Refused.{refusalText}
 use Rattle.dispatch.specs.declared.call.Answer.{Answer}
 use Rattle.dispatch.specs.declared.call.Answer.the-variants.{Refused, Released, Finished, Looked}
 use Rattle.dispatch.specs.declared.look.Side.{Side}

@@ -9,7 +9,8 @@ use Rattle.dispatch.specs.declared.plan.Fresh.{Fresh}
 use Rattle.dispatch.specs.Record.{freshOf}
 use Rattle.dispatch.specs.declared.call.Call.{Call}
 use Rattle.dispatch.specs.Calls.{answeredOf, step}
-use Rattle.plan_answer.specs.Program.{refusalText, unreadableText}
+use Rattle.units.specs.Refusals.{refusal, textNo}
+use Rattle.writing.specs.Refused.{refusalText}
 use Rattle.calls_text.specs.Input.{InputSays, plays, unplayable, inputOf, callsFrom}
 use Rattle.player.specs.Answers.{answerText}
 
@@ -29,7 +30,7 @@ freshText f cs = cond (eqb (f .refusal .no) 0) (answersText (f .next) cs) (refus
 -- what an input says, answered
 unfoldable pub givenText : List ℕ → InputSays → List ℕ
 givenText s (plays m xs at) = freshText (freshOf m xs) (callsFrom (length s) s at)
-givenText s (unplayable line) = unreadableText line
+givenText s (unplayable line) = refusalText (refusal textNo line)
 
 -- what the player writes: 16 comes first, then planning's refusals
 unfoldable pub playText : List ℕ → List ℕ
