@@ -1,75 +1,76 @@
 -- The equations of what the program writes, as the code meets them.
 use Prim.Native.Nat.{ℕ, _≤_}
-use mathlib.Core.Path.{_≡_, refl, sym, _∙_}
-use mathlib.Core.List.{List, _++_, append-nil}
-use mathlib.Core.Bool.{true}
-use borrow.Author.Tests.{ne-eqb}
+use mathlib.Core.Path.{_≡_, refl, ap, _∙_, subst}
+use mathlib.Core.List.{List}
+use native.Mathlib.Omega.{arith}
+use lib.Dec.{leb, eqb}
 use lib.ListN.{length}
-use Rattle.units.specs.Limits.{tasksLimit}
-use Rattle.writing.specs.Decimal.{decimalOf}
-use Rattle.writing.specs.Field.{field, lineEnd}
-use Rattle.units.specs.declared.refusal.Refusal.{Refusal}
-use Rattle.planning.specs.declared.Planned.{Planned}
+use borrow.Author.Tests.{ne-eqb, eqb-false, leb-true}
+use Rattle.lists.proofs.Tests.{by-cases}
+use Rattle.units.specs.Refusals.{refusal, textNo}
+use Rattle.writing.specs.Wrote.{Wrote}
+use Rattle.writing.specs.Refused.{refusalText}
+use Rattle.writing.proofs.Wrote.{fitted, recast}
+use Rattle.admission.specs.Admission.{planRefusal}
 use Rattle.planning.specs.Plan.{planOf}
-use Rattle.planning.specs.Kept.{PlanKept}
-use Rattle.soundness.proofs.Taken.{plan-number, plan-kept}
-use Rattle.soundness.proofs.PlannedSound.{plan-sound}
-use Rattle.soundness.specs.Plan.{planSound}
-use Rattle.soundness.proofs.Facts.{tasks-few}
-use Rattle.soundness.proofs.PlannedShape.{started-plan}
+use Rattle.listing.specs.declared.listed.Listed.{Listed}
 use Rattle.listing.specs.Listing.{listingText}
-use Rattle.listing.proofs.Fits.{listing-length}
+use Rattle.listing.proofs.TableFits.{table-length}
+use Rattle.listing.specs.Listed.{listingLimit, planListed, planAfter, tableListed, tableAfter}
 use Rattle.table_text.specs.Text.{says, unreadable, textOf}
-use Rattle.plan_answer.specs.Program.{refusalText, unreadableText, plannedText, saidText, programText}
+use Rattle.plan_answer.specs.Answer.{tableText, saidIn, answerText}
 
-module _ (r : Refusal) where
-  -- a refusal that names no task
-  pub unnamed : r .task ≡ 0 → field "refused " (r .no) ++ lineEnd ≡ refusalText r
-  unfolding refusalText
-  unnamed e = rw (e, append-nil (decimalOf (r .no))) refl
+module _ (m : ℕ) (xs a : List ℕ) where
+  -- a refused table has changed no byte
+  pub refused-kept : (tableListed m xs (length a) .refusal .no ≡ 0 → ⊥) → tableAfter m xs a ≡ a
+  unfolding tableListed tableAfter planListed planAfter
+  refused-kept n =
+      by-cases (eqb (planRefusal m xs .no) 0)
+      (λ e. by-cases (leb (length (listingText (planOf m xs .plan))) (length a))
+      (λ h. absurd (rw (e, h) at n refl))
+      (λ h. rw (e, h)))
+      (λ e. rw e)
 
-  -- one that names a task
-  pub named : (r .task ≡ 0 → ⊥) → (field "refused " (r .no) ++ field " task " (r .named)) ++ lineEnd ≡ refusalText r
-  unfolding refusalText
-  named e = rw (ne-eqb (r .task) 0 e)
+  -- and its refusal is the answer
+  pub refused : (tableListed m xs (length a) .refusal .no ≡ 0 → ⊥) → refusalText (tableListed m xs (length a) .refusal) ≡ tableText (length a) m xs
+  unfolding tableText
+  refused n = rw (ne-eqb (tableListed m xs (length a) .refusal .no) 0 n)
 
-module _ (m : ℕ) (xs : List ℕ) {p : Planned} (e : p ≡ planOf m xs) where
-  -- a refused table
-  pub refused : (p .refusal .no ≡ 0 → ⊥) → refusalText (p .refusal) ≡ plannedText (planOf m xs)
-  unfolding plannedText
-  refused z = rw (← e, ne-eqb (p .refusal .no) 0 z)
+  -- a taken one is listed
+  pub taken : tableListed m xs (length a) .refusal .no ≡ 0
+      → Wrote a 0 (tableText (length a) m xs) (tableAfter m xs a) (tableListed m xs (length a) .length)
+  unfolding tableText tableListed tableAfter planListed planAfter
+  taken t =
+      by-cases (eqb (planRefusal m xs .no) 0)
+      (λ e. by-cases (leb (length (listingText (planOf m xs .plan))) (length a))
+      (λ h. rw (e, h) (fitted (leb-true (length (listingText (planOf m xs .plan))) (length a) h)))
+      (λ h. absurd (omega (arith, rw (e, h) at t))))
+      (λ e. absurd (eqb-false (planRefusal m xs .no) 0 e (rw e at t)))
 
-  module _ (z : p .refusal .no ≡ 0) where
-    none : planOf m xs .refusal .no ≡ 0
-    none = rw (← e) z
+-- the same, by what the listing's call answered and left in the buffer
+module _ (m : ℕ) (xs a : List ℕ) {l : Listed} {b : List ℕ} (e : l ≡ tableListed m xs (length a)) (f : b ≡ tableAfter m xs a) where
+  -- the refusal's line is written over the buffer as it was
+  pub refused-wrote : {d : List ℕ} {k : ℕ} → (l .refusal .no ≡ 0 → ⊥) → Wrote b 0 (refusalText (l .refusal)) d k → Wrote a 0 (tableText (length a) m xs) d k
+  refused-wrote {d} {k} n w =
+      let z : tableListed m xs (length a) .refusal .no ≡ 0 → ⊥ = subst (λ (x : Listed). x .refusal .no ≡ 0 → ⊥) e n in
+      recast (ap (λ (x : Listed). refusalText (x .refusal)) e ∙ refused m xs a z)
+      (subst (λ (c : List ℕ). Wrote c 0 (refusalText (l .refusal)) d k) (f ∙ refused-kept m xs a z) w)
 
-    taken-sound : planSound (planOf m xs .plan) ≡ true
-    taken-sound = plan-sound m xs (sym (plan-number m xs) ∙ none)
+  -- the listing is there
+  pub taken-wrote : l .refusal .no ≡ 0 → Wrote a 0 (tableText (length a) m xs) b (l .length)
+  taken-wrote t = rw (e, f) (taken m xs a (rw e at t))
 
-    -- a taken one
-    pub taken : listingText (p .plan) ≡ plannedText (planOf m xs)
-    unfolding plannedText
-    taken = rw (← e, z)
+  -- and is short
+  pub taken-short : l .length ≤ listingLimit
+  taken-short = rw e (table-length m xs (length a))
 
-    -- keeps what the bounds ask for
-    pub taken-kept : PlanKept (p .plan)
-    taken-kept = rw e (plan-kept m xs (sym (plan-number m xs) ∙ none))
-
-    -- has few tasks
-    pub taken-few : p .plan .count ≤ tasksLimit
-    taken-few = rw e (tasks-few (planOf m xs .plan) taken-sound)
-
-    -- and a short listing
-    pub taken-short : length (listingText (p .plan)) ≤ 15960
-    taken-short = rw e (listing-length (planOf m xs .plan) (started-plan m xs none) taken-sound)
-
-module _ (s : List ℕ) where
+module _ (room : ℕ) (s : List ℕ) where
   -- an unreadable text
-  pub text-unreadable : {line : ℕ} → textOf s ≡ unreadable line → unreadableText line ≡ programText s
-  unfolding programText saidText
+  pub text-unreadable : {line : ℕ} → textOf s ≡ unreadable line → refusalText (refusal textNo line) ≡ answerText room s
+  unfolding answerText saidIn
   text-unreadable e = rw e refl
 
   -- a readable one
-  pub text-read : {m : ℕ} {xs : List ℕ} → textOf s ≡ says m xs → plannedText (planOf m xs) ≡ programText s
-  unfolding programText saidText
+  pub text-read : {m : ℕ} {xs : List ℕ} → textOf s ≡ says m xs → tableText room m xs ≡ answerText room s
+  unfolding answerText saidIn
   text-read e = rw e refl

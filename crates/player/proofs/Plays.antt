@@ -15,7 +15,7 @@ use Rattle.dispatch.specs.declared.call.Answered.{Answered}
 use Rattle.dispatch.specs.Calls.{answeredOf, step, after}
 use Rattle.calls_text.specs.Line.{callLine, lineAfter}
 use Rattle.calls_text.specs.Input.{inputLimit, thenCalls, callIn, callsFrom}
-use Rattle.player.specs.Answers.{answerText}
+use Rattle.player.specs.Answers.{answerLine}
 use Rattle.player.specs.Played.{answersLimit, answersText}
 use Rattle.calls_text.specs.declared.line.CallLine.{CallLine}
 use Rattle.calls_text.specs.declared.line.CallLine.the-variants.{Called, NoCall}
@@ -27,10 +27,10 @@ Leaves r cs before at next now end = (next ≡ after r cs) × Wrote before at (a
 
 -- a line's call
 pub line-called : (r : Record) {line : CallLine} {before now : List ℕ} {at end place : ℕ} {c : Call} {a : Answered}
-    → line ≡ Called c place → a ≡ answeredOf r c → Wrote before at (answerText (a .answer)) now end → Leaves r (callIn line) before at (a .next) now end
+    → line ≡ Called c place → a ≡ answeredOf r c → Wrote before at (answerLine (a .answer)) now end → Leaves r (callIn line) before at (a .next) now end
 unfolding thenCalls answersText
 line-called r {a = a} e s w =
-    rw e (ap (λ (x : Answered). x .next) s, recast (sym (append-nil (answerText (a .answer))) ∙ ap (λ (x : Answered). answerText (x .answer) ++ []) s) w)
+    rw e (ap (λ (x : Answered). x .next) s, recast (sym (append-nil (answerLine (a .answer))) ∙ ap (λ (x : Answered). answerLine (x .answer) ++ []) s) w)
 
 -- a line without a call leaves all as it was
 pub line-none : (r : Record) {line : CallLine} (now : List ℕ) (at : ℕ) → line ≡ NoCall → Leaves r (callIn line) now at r now at
@@ -97,7 +97,7 @@ answers-append : (r : Record) (xs ys : List Call) → answersText r (xs ++ ys) �
 unfolding answersText
 answers-append r [] ys = refl
 answers-append r (x ∷ xs) ys =
-    let line = answerText (answeredOf r x .answer) in
+    let line = answerLine (answeredOf r x .answer) in
     ap (λ (l : List ℕ). line ++ l) (answers-append (step r x) xs ys)
     ∙ sym (append-assoc line (answersText (step r x) xs) (answersText (after (step r x) xs) ys))
 

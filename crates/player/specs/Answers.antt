@@ -29,8 +29,8 @@ choiceText (Fixed i d) = chosenText "fixed " i (d .0)
 choiceText (Mover i d side) = moverText side i (d .0)
 
 -- a call's answer: `refused 8`, `core 2 deadline 30`, `late -3`, or a core's choice
-unfoldable pub answerText : Answer → List ℕ
-answerText (Refused x) = refusalText x
-answerText (Released p d) = field "core " p ++ field " deadline " (d .0) ++ lineEnd
-answerText (Finished late) = ascii "late " ++ signedOf late ++ lineEnd
-answerText (Looked choice) = choiceText choice ++ lineEnd
+unfoldable pub answerLine : Answer → List ℕ
+answerLine (Refused x) = refusalText x
+answerLine (Released p d) = field "core " p ++ field " deadline " (d .0) ++ lineEnd
+answerLine (Finished late) = ascii "late " ++ signedOf late ++ lineEnd
+answerLine (Looked choice) = choiceText choice ++ lineEnd

@@ -12,7 +12,7 @@ use Rattle.dispatch.specs.Calls.{answeredOf, step}
 use Rattle.units.specs.Refusals.{refusal, textNo}
 use Rattle.writing.specs.Refused.{refusalText}
 use Rattle.calls_text.specs.Input.{InputSays, plays, unplayable, inputOf, callsFrom}
-use Rattle.player.specs.Answers.{answerText}
+use Rattle.player.specs.Answers.{answerLine}
 
 -- bytes of the answers to an input, at most
 abbrev pub answersLimit : ℕ
@@ -21,7 +21,7 @@ answersLimit = 460000
 -- the answers of calls, each made on the record that the one before handed on
 unfoldable pub answersText : Record → List Call → List ℕ
 answersText r [] = []
-answersText r (c ∷ cs) = answerText (answeredOf r c .answer) ++ answersText (step r c) cs
+answersText r (c ∷ cs) = answerLine (answeredOf r c .answer) ++ answersText (step r c) cs
 
 -- a table that is taken is played, another refused as by the program
 unfoldable pub freshText : Fresh → List Call → List ℕ

@@ -15,7 +15,7 @@ ghost use Rattle.writing.specs.Decimal.{decimalOf};
 ghost use Rattle.writing.specs.Field.{field};
 ghost use Rattle.writing.specs.Limits.{placeLimit};
 ghost use Rattle.writing.specs.Wrote.{Wrote};
-ghost use Rattle.player.specs.Answers.{moverText, choiceText, answerText};
+ghost use Rattle.player.specs.Answers.{moverText, choiceText, answerLine};
 ghost use lib.ListN.{length};
 
 // A chosen task and its deadline, after a word.
@@ -56,7 +56,7 @@ fn put_choice(buf: &mut [u8], at: usize, choice: Choice) -> usize
 // A call's answer, a line.
 pub fn put_answer(buf: &mut [u8], at: usize, answer: Answer) -> usize
     requires { ⌜ at + 60 ≤ placeLimit ⌝ }
-    ensures { λ r. ⌜ Wrote (now (buf .entry)) at (answerText answer) (now (buf .exit)) r ⌝ }
+    ensures { λ r. ⌜ Wrote (now (buf .entry)) at (answerLine answer) (now (buf .exit)) r ⌝ }
     ensures { λ r. ⌜ r ≤ at + 60 ⌝ }
 {
     match answer {

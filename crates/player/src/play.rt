@@ -3,7 +3,7 @@ use crate::played::play_calls;
 use calls_text::calls::calls_place;
 use calls_text::calls::first_bad;
 use dispatch::Record;
-use plan_answer::NUMBERS;
+use table_text::NUMBERS;
 use table_text::Reading;
 use table_text::read_text;
 use units::refusal::Refusal;

@@ -11,6 +11,8 @@ ghost use Rattle.table_text.specs.Text.{textOf, tableFrom, badTask, numb
 
 // Bytes of a text, at most.
 pub const BYTES: usize = 4_096;
+// Numbers of a table that any text's fit.
+pub const NUMBERS: usize = 2_048;
 // 2^32, which each number is below.
 const BOUND: u64 = 4_294_967_296;
 

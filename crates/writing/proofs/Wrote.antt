@@ -57,3 +57,9 @@ whole {a} {b} {k} {xs} w h =
 -- it settles each byte of the buffer and the answer
 pub settled : {a b d : List ℕ} {i j k : ℕ} {xs : List ℕ} → Wrote a i xs b j → Wrote a i xs d k → (b ≡ d) × (j ≡ k)
 settled p q = (p .bytes ∙ sym (q .bytes), p .end ∙ sym (q .end))
+
+-- and such a buffer was written so
+pub fitted : {a xs : List ℕ} → length xs ≤ length a → Wrote a 0 xs (xs ++ drop (length xs) a) (length xs)
+fitted {a} {xs} h =
+    let e : 0 + length xs ≡ length xs = omega arith in
+    record { bytes = sym (sets-eq xs a 0 (omega arith) ∙ ap (λ (m : ℕ). xs ++ drop m a) e); end = sym e }

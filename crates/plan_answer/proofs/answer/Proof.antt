@@ -1,4 +1,4 @@
--- `program::answer` meets its contract.
+-- `plan_answer::answer` meets its contract.
 use native.Mathlib.Omega.{arith}
 use Rattle.writing.proofs.Wrote.{recast}
 use Rattle.plan_answer.proofs.Texts.{text-unreadable, text-read}
@@ -16,26 +16,26 @@ read-text-requires c κs = search needs
 enum-known-line : tie.Need-enum-known-line
 enum-known-line c = search needs
 
-put-unreadable-requires : tie.Need-put-unreadable-requires
-put-unreadable-requires c κs = search needs
+put-refusal-requires : tie.Need-put-refusal-requires
+put-refusal-requires c κs = search needs
 
 enum-known-cores : tie.Need-enum-known-cores
 enum-known-cores c = search needs
 
-sub-put-planned : tie.Need-sub-put-planned
-sub-put-planned c = search needs
+sub-put-table : tie.Need-sub-put-table
+sub-put-table c = search needs
 
-part-put-planned-start : tie.Need-part-put-planned-start
-part-put-planned-start c = search needs
+part-put-table-start : tie.Need-part-put-table-start
+part-put-table-start c = search needs
 
-part-put-planned-end : tie.Need-part-put-planned-end
-part-put-planned-end c =
+part-put-table-end : tie.Need-part-put-table-end
+part-put-table-end c =
     let k = c .before .before .before in
     let q = k .before .before .before in
     omega (arith, is-few _ (q .read-text .ensures .0) (k .cores .given .1))
 
-put-planned-requires : tie.Need-put-planned-requires
-put-planned-requires c κs = search needs
+put-table-requires : tie.Need-put-table-requires
+put-table-requires c κs = search needs
 
 same-length : tie.Need-same-length
 same-length c = search needs
@@ -45,7 +45,7 @@ returns c =
     let p = c .before .before in
     let k = p .before .before .before in
     let q = k .before .before .before in
-    (recast (text-unreadable _ (is-unreadable _ (q .read-text .ensures .0) (k .line .given .1))) (p .put-unreadable .ensures .0), search needs)
+    (recast (text-unreadable _ _ (is-unreadable _ (q .read-text .ensures .0) (k .line .given .1))) (p .put-refusal .ensures .0), search needs)
 
 same-length-2 : tie.Need-same-length-2
 same-length-2 c = search needs
@@ -55,7 +55,7 @@ returns-2 c =
     let p = c .before .before in
     let k = p .before .before .before .before .before in
     let q = k .before .before .before in
-    (recast (text-read _ (is-read _ (q .read-text .ensures .0) (k .cores .given .1) _ (search needs) (q .read-text .ensures .1))) (p .put-planned .ensures .0), search needs)
+    (recast (text-read _ _ (is-read _ (q .read-text .ensures .0) (k .cores .given .1) _ (search needs) (q .read-text .ensures .1))) (p .put-table .ensures .0), search needs)
 
 pub answer-spec : {M : Type 1} → statement M
 answer-spec =
@@ -64,12 +64,12 @@ answer-spec =
     slice-aggregate-read-text
     read-text-requires
     enum-known-line
-    put-unreadable-requires
+    put-refusal-requires
     enum-known-cores
-    sub-put-planned
-    part-put-planned-start
-    part-put-planned-end
-    put-planned-requires
+    sub-put-table
+    part-put-table-start
+    part-put-table-end
+    put-table-requires
     same-length
     returns
     same-length-2

@@ -8,7 +8,7 @@ use Rattle.writing.specs.Ascii.{ascii}
 use Rattle.writing.specs.Decimal.{signedOf}
 use Rattle.writing.specs.Field.{lineEnd}
 use Rattle.writing.proofs.Wrote.{then, recast}
-use Rattle.player.specs.Answers.{answerText}
+use Rattle.player.specs.Answers.{answerLine}
 use borrow.Author.Needs.{needs}
 use Rattle.player.proofs.answers.put_answer.Statement.{statement}
 use Rattle.player.proofs.answers.put_answer.Tie as tie
@@ -65,29 +65,29 @@ same-length : tie.Need-same-length
 same-length c = search needs
 
 returns : tie.Need-returns
-unfolding answerText
+unfolding answerLine
 returns c =
     let p = c .before .before in
     let k = p .before .before .before in
-    (recast (sym (ap answerText (k .answer .given .1))) (p .put-refusal .ensures .0), search needs)
+    (recast (sym (ap answerLine (k .answer .given .1))) (p .put-refusal .ensures .0), search needs)
 
 same-length-2 : tie.Need-same-length-2
 same-length-2 c = search needs
 
 returns-2 : tie.Need-returns-2
-unfolding answerText
+unfolding answerLine
 returns-2 c =
     let p3 = c .before .before in
     let p2 = p3 .before .before .before .before in
     let p1 = p2 .before .before .before .before .before in
     let k = p1 .before .before .before .before in
-    (recast (sym (ap answerText (k .answer2 .given .1))) (then (then (p1 .put-field .ensures .0) (p2 .put-field2 .ensures .0)) (p3 .put-byte .ensures)), search needs)
+    (recast (sym (ap answerLine (k .answer2 .given .1))) (then (then (p1 .put-field .ensures .0) (p2 .put-field2 .ensures .0)) (p3 .put-byte .ensures)), search needs)
 
 same-length-3 : tie.Need-same-length-3
 same-length-3 c = search needs
 
 returns-3 : tie.Need-returns-3
-unfolding answerText
+unfolding answerLine
 returns-3 c =
     let p3 = c .before .before in
     let p2 = p3 .before .before .before .before in
@@ -95,19 +95,19 @@ returns-3 c =
     let k = p1 .before .before .before .before in
     let z = k .answer3 .given .0 .0 in
     let f : SFits w64 z = search needs in
-    let e = ap (λ l. ascii "late " ++ signedOf l ++ lineEnd) (toZ-ofZ w64 z f) ∙ sym (ap answerText (k .answer3 .given .1)) in
+    let e = ap (λ l. ascii "late " ++ signedOf l ++ lineEnd) (toZ-ofZ w64 z f) ∙ sym (ap answerLine (k .answer3 .given .1)) in
     (recast e (then (then (p1 .put-text .ensures) (p2 .put-signed .ensures .0)) (p3 .put-byte2 .ensures)), search needs)
 
 same-length-4 : tie.Need-same-length-4
 same-length-4 c = search needs
 
 returns-4 : tie.Need-returns-4
-unfolding answerText
+unfolding answerLine
 returns-4 c =
     let p2 = c .before .before in
     let p1 = p2 .before .before .before .before in
     let k = p1 .before .before .before in
-    (recast (sym (ap answerText (k .answer4 .given .1))) (then (p1 .put-choice .ensures .0) (p2 .put-byte3 .ensures)), search needs)
+    (recast (sym (ap answerLine (k .answer4 .given .1))) (then (p1 .put-choice .ensures .0) (p2 .put-byte3 .ensures)), search needs)
 
 pub put-answer-spec : {M : Type 1} → statement M
 put-answer-spec =
