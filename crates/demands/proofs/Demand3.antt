@@ -28,6 +28,8 @@ module _ (m : ℕ) (xs : List ℕ) (ok : planOf m xs .refusal .no ≡ 0) (i : �
 
   -- of any c in a row it is less than two away
   pub runs-in-a-row : (p : ℕ) → 0 < p → (a c : ℕ) → a + c ≤ length (coresOf i (recordOf (planOf m xs .plan)) cs)
-      → (inARow p (coresOf i (recordOf (planOf m xs .plan)) cs) a c * taskWeight (planOf m xs .plan) i < taskShare (planOf m xs .plan) i p * c + 2 * taskWeight (planOf m xs .plan) i)
-      × (taskShare (planOf m xs .plan) i p * c < inARow p (coresOf i (recordOf (planOf m xs .plan)) cs) a c * taskWeight (planOf m xs .plan) i + 2 * taskWeight (planOf m xs .plan) i)
+      → (inARow p (coresOf i (recordOf (planOf m xs .plan)) cs) a c * taskWeight (planOf m xs .plan) i
+      < taskShare (planOf m xs .plan) i p * c + 2 * taskWeight (planOf m xs .plan) i)
+      × (taskShare (planOf m xs .plan) i p * c
+      < inARow p (coresOf i (recordOf (planOf m xs .plan)) cs) a c * taskWeight (planOf m xs .plan) i + 2 * taskWeight (planOf m xs .plan) i)
   runs-in-a-row = of-any-in-a-row (planOf m xs .plan) (started m xs ok) i from to cs

@@ -33,7 +33,11 @@ module _ (r : Record) (k : ℕ) where
   -- a task that is found is no idle core
   busy : (j d : ℕ) → choiceFor r (record { task = suc j; key = d }) ≡ Idle → ⊥
   unfolding choiceFor
-  busy j d = rw (eqb·suc-zero j) (by-cases (eqb d 0) (λ a. rw a (λ e. false≢true (cc))) (λ a. by-cases (eqb d 1) (λ b. rw (a, b) (λ e. false≢true (cc))) (λ b. rw (a, b) (λ e. false≢true (cc)))))
+  busy j d =
+      rw (eqb·suc-zero j)
+      (by-cases (eqb d 0)
+      (λ a. rw a (λ e. false≢true (cc)))
+      (λ a. by-cases (eqb d 1) (λ b. rw (a, b) (λ e. false≢true (cc))) (λ b. rw (a, b) (λ e. false≢true (cc)))))
 
   -- so for each outcome of the search
   idle-if : (task d : ℕ) → Found r k tasksLimit task d → (choiceFor r (record { task = task; key = d }) ≡ Idle) ↔ None r k

@@ -30,7 +30,8 @@ use Rattle.dispatch.specs.Shape.{Good}
 use Rattle.dispatch.specs.Calls.{step, coreBy}
 use Rattle.dispatch.proofs.Records.{task-in}
 use Rattle.dispatch.proofs.Passed.{release-passed}
-use Rattle.dispatch.proofs.Answers.{release-answer, release-refused, finish-refused, look-refused, release-taken, finish-taken, look-taken, release-core}
+use Rattle.dispatch.proofs.Answers.{release-answer, release-refused, finish-refused, look-refused, release-core}
+use Rattle.dispatch.proofs.Answers.{release-taken, finish-taken, look-taken}
 use Rattle.dispatch.proofs.Always.{step-good, step-plan}
 
 -- counts and place after n runs
@@ -134,13 +135,15 @@ module _ (i : ℕ) (ln : Line) (r : Record) (n : ℕ) (h : Here i ln r n) where
         rw (ne-eqb j i d),
         here-on (Release j t) n
             (rw (release-taken r j (t .0) e)
-            (other-at (j - 1) (t .0) (withRun (lineAt r (j - 1)) (stateAt r (j - 1)) (t .0)) (λ q. d (omega (arith, release-passed r j (t .0) e .0 .from, h .from))))),
+            (other-at (j - 1) (t .0) (withRun (lineAt r (j - 1)) (stateAt r (j - 1)) (t .0))
+            (λ q. d (omega (arith, release-passed r j (t .0) e .0 .from, h .from))))),
       )
       go (yes e) (yes d) = inr (
         rw (eq-eqb j i d, release-answer r j (t .0), eq-eqb (releaseRefusal r j (t .0)) 0 e, release-core r j (t .0) e, d, h .line)
             (ap (λ (k : ℕ). k ∷ []) (at-core ln (stateAt r (i - 1)) n (h .turns))),
         here-on (Release j t) (suc n)
-            (rw (release-taken r j (t .0) e, d, getD-set-same (r .states) (i - 1) (withRun (lineAt r (i - 1)) (stateAt r (i - 1)) (t .0)) noState inside, h .line)
+            (let st = withRun (lineAt r (i - 1)) (stateAt r (i - 1)) (t .0) in
+            rw (release-taken r j (t .0) e, d, getD-set-same (r .states) (i - 1) st noState inside, h .line)
             (at-release ln (stateAt r (i - 1)) n (h .turns) (t .0))),
       )
 

@@ -38,7 +38,8 @@ unfolding thenCalls answersText
 line-none r now at e = rw e (refl, none now at)
 
 -- a later place gives the same calls, the rest of them
-then-same : (k at : ℕ) (line : CallLine) {f g : ℕ → List Call} → Reach k at line → ((next : ℕ) → at + k ≤ next → f next ≡ g next) → thenCalls f line ≡ thenCalls g line
+then-same : (k at : ℕ) (line : CallLine) {f g : ℕ → List Call} → Reach k at line
+    → ((next : ℕ) → at + k ≤ next → f next ≡ g next) → thenCalls f line ≡ thenCalls g line
 unfolding thenCalls
 then-same k at (Called c next) h e = ap (λ (cs : List Call). c ∷ cs) (e next h)
 then-same k at NoCall h e = refl
@@ -112,7 +113,7 @@ pub record Playing (s : List ℕ) (from : ℕ) (first : Record) (before : List �
 pub begun : (s : List ℕ) (from : ℕ) (first : Record) (before : List ℕ) → Playing s from first before first before from 0
 begun s from first before = record { done = []; wrote = none before 0; left = refl; few = omega arith; short = omega arith }
 
-module _ {s : List ℕ} {from : ℕ} {first : Record} {before : List ℕ} {held : Record} {now : List ℕ} {at end : ℕ} (h : Playing s from first before held now at end) where
+module _ {s before now : List ℕ} {first held : Record} {from at end : ℕ} (h : Playing s from first before held now at end) where
   -- all is written where nothing is left
   all : callsAt s at ≡ [] → Wrote before 0 (answersText first (callsAt s from)) now end
   unfolding answersText

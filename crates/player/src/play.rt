@@ -13,9 +13,8 @@ ghost use lib.ListN.{length};
 ghost use Rattle.units.specs.Refusals.{refusal, textNo};
 ghost use Rattle.writing.specs.Wrote.{Wrote};
 ghost use Rattle.writing.specs.Refused.{refusalText};
-ghost use Rattle.table_text.specs.Text.{says};
-ghost use Rattle.calls_text.specs.Input.{inputLimit, plays, afterTable};
-ghost use Rattle.player.specs.Played.{answersLimit, givenText, playText};
+ghost use Rattle.calls_text.specs.Input.{inputLimit, plays};
+ghost use Rattle.player.specs.Played.{answersLimit, givenText, tablePlayed, playText};
 
 // Bytes of an input, at most.
 pub const INPUT: usize = 65_536;
@@ -40,7 +39,7 @@ fn put_unreadable(out: &mut [u8], line: usize) -> usize
 // The calls after a table that can be read, whose text ends at a place.
 fn play_table(text: &[u8], place: usize, cores: u32, table: &[u32], out: &mut [u8]) -> usize
     requires { ⌜ (length (now text) ≤ inputLimit) × (length (now table) ≤ 2048) ⌝ }
-    ensures { λ r. ⌜ Wrote (now (out .entry)) 0 (givenText (now (text .entry)) (afterTable (now (text .entry)) place (says cores (now (table .entry))))) (now (out .exit)) r ⌝ }
+    ensures { λ r. ⌜ Wrote (now (out .entry)) 0 (tablePlayed (now (text .entry)) place cores (now (table .entry))) (now (out .exit)) r ⌝ }
     ensures { λ r. ⌜ r ≤ answersLimit ⌝ }
 {
     let tasks = table.len() / 2;

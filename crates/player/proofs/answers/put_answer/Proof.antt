@@ -81,7 +81,8 @@ returns-2 c =
     let p2 = p3 .before .before .before .before in
     let p1 = p2 .before .before .before .before .before in
     let k = p1 .before .before .before .before in
-    (recast (sym (ap answerLine (k .answer2 .given .1))) (then (then (p1 .put-field .ensures .0) (p2 .put-field2 .ensures .0)) (p3 .put-byte .ensures)), search needs)
+    let w = then (then (p1 .put-field .ensures .0) (p2 .put-field2 .ensures .0)) (p3 .put-byte .ensures) in
+    (recast (sym (ap answerLine (k .answer2 .given .1))) w, search needs)
 
 same-length-3 : tie.Need-same-length-3
 same-length-3 c = search needs
