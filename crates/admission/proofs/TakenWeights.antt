@@ -2,10 +2,10 @@
 use Prim.Native.Nat.{ℕ, zero, suc, _+_, _*_, _/_, _≤_, _<_, _∣_}
 use mathlib.Core.Path.{_≡_, refl}
 use mathlib.Core.List.{List, [], _∷_}
-use native.Mathlib.Nat.{div-mul-cancel, dvd-mul-left-of-dvd, mul-pos, pos-of-ne-zero, le-of-dvd, mul-le-mul-right, le-of-mul-le-mul-right}
+use native.Mathlib.Nat.{div-mul-cancel, dvd-mul-left-of-dvd, mul-pos, pos-of-ne-zero, le-of-dvd, mul-le-mul, mul-le-mul-right, le-of-mul-le-mul-right, le-trans}
 use native.Mathlib.Omega.{arith}
 use lib.ListN.{length, getD}
-use Rattle.units.specs.Limits.{tasksLimit, commonLimit}
+use Rattle.units.specs.Limits.{coresLimit, tasksLimit, commonLimit}
 use Rattle.lists.specs.Lists.{total, most}
 use Rattle.arith.specs.Period.{periods}
 use Rattle.arith.proofs.Common.{common-each, common-least, common-pos}
@@ -73,3 +73,7 @@ module _ (m : ℕ) (xs : List ℕ) (t : Taken m xs) where
         rw (padded-most (weightsOf xs)) (most-within (commonOf xs) (weightsOf xs) (λ k h. weight-range k (omega arith) .1)),
         rw (padded-sum (weightsOf xs)) (t .fit),
       )
+
+  -- all together weigh at most the largest sum, sixteen whole cores
+  pub weights-largest : total (weightsOf xs) ≤ coresLimit * commonLimit
+  weights-largest = le-trans (t .fit) (mul-le-mul (t .cores .1) (t .within))

@@ -1,10 +1,10 @@
 // Planning's refusals, by number.
+use crate::table::no_table;
 use units::limits::CORES;
 use units::limits::PERIOD;
-use units::limits::TASKS;
 use units::refusal::Refusal;
 ghost use mathlib.Core.Path.{_≡_};
-ghost use Rattle.admission.specs.Refusals.{coresTest, noTable, tableTest, taskTest, tasksTest, inputTest};
+ghost use Rattle.admission.specs.Refusals.{coresTest, tableTest, taskTest, tasksTest, inputTest};
 
 // Refusal 1.
 fn cores_test(cores: u32) -> Refusal
@@ -17,13 +17,6 @@ fn cores_test(cores: u32) -> Refusal
         };
     }
     Refusal::NONE
-}
-
-// So many numbers are no table: none, over 64 tasks, or ending inside a task. The one test of refusal 2.
-pub fn no_table(numbers: usize) -> bool
-    ensures { λ r. ⌜ r ≡ noTable numbers ⌝ }
-{
-    (numbers == 0) | (2 * TASKS < numbers) | (numbers % 2 == 1)
 }
 
 // Refusal 2.

@@ -1,5 +1,5 @@
 // A table's bytes: eight for a task, cost then period, each least byte first.
-use admission::refusals::no_table;
+use admission::table::no_table;
 use little_endian::number32;
 use units::limits::TASKS;
 ghost use mathlib.Core.Path.{_≡_};

@@ -1,3 +1,3 @@
 // The listing of a plan, document 01, "Listing and text".
 pub mod listed;
-pub mod writers;
+mod writers;

@@ -4,9 +4,10 @@ use plan_answer::answer;
 use streams::Input;
 use streams::read_input;
 use streams::write_output;
+use table_text::BYTES;
 
 // One byte more than a text may have, so that a longer one is seen as such.
-const TEXT: usize = 4_097;
+const TEXT: usize = BYTES + 1;
 
 fn main() {
     let mut text = [0u8; TEXT];

@@ -11,7 +11,7 @@ impl Share {
     // The empty share.
     pub const EMPTY: Share = Share(0);
 
-    // The largest sum: sixteen whole cores.
+    // The largest sum: sixteen whole cores. No list that is taken weighs more; what is refused by 6 may.
     pub const LARGEST: Share = Share(CORES as u32 * COMMON);
 
     pub fn largest() -> Share
