@@ -1,6 +1,6 @@
 // The call player: a table's text and calls on standard input, a line for each call on standard output.
+use calls_text::INPUT;
 use player::play::ANSWERS;
-use player::play::INPUT;
 use player::play::play;
 use streams::Input;
 use streams::read_input;

@@ -1,5 +1,6 @@
 // What the player writes for an input.
 use crate::played::play_calls;
+use calls_text::INPUT;
 use calls_text::calls::calls_place;
 use calls_text::calls::first_bad;
 use dispatch::Record;
@@ -16,8 +17,6 @@ ghost use Rattle.writing.specs.Refused.{refusalText};
 ghost use Rattle.calls_text.specs.Input.{inputLimit, plays};
 ghost use Rattle.player.specs.Played.{answersLimit, givenText, tablePlayed, playText};
 
-// Bytes of an input, at most.
-pub const INPUT: usize = 65_536;
 // Bytes of the answers to an input, at most.
 pub const ANSWERS: usize = 460_000;
 
