@@ -30,7 +30,8 @@ answered m xs f e n =
 -- of tests 1 to 4
 pub input-decides : (m : ℕ) (xs : List ℕ) (f : Refusal) → f ≡ inputTest m xs → (f .no ≡ 0 → ⊥) → f ≡ planRefusal m xs
 unfolding planRefusal
-input-decides m xs f e n = decides f (inputTest m xs) (periodTest (periodOf (periods xs)) orElse weightsTest m (common (periods xs)) (weights (common (periods xs)) xs)) e n
+input-decides m xs f e n = decides f (inputTest m xs)
+    (periodTest (periodOf (periods xs)) orElse weightsTest m (common (periods xs)) (weights (common (periods xs)) xs)) e n
 
 -- a table that is taken passes all tests
 pub passed : (m : ℕ) (xs : List ℕ) → planRefusal m xs .no ≡ 0
@@ -46,8 +47,10 @@ module _ (m : ℕ) (xs : List ℕ) (ok : inputTest m xs .no ≡ 0) where
   pub over : (k : ℕ) → periodOf (periods xs) ≡ Over k → refusal periodNo k ≡ planRefusal m xs
   unfolding planRefusal
   over k e =
-      leaves (inputTest m xs) (inputTest m xs) (refusal periodNo k) (periodTest (periodOf (periods xs)) orElse weightsTest m (common (periods xs)) (weights (common (periods xs)) xs)) refl ok
-      (decides (refusal periodNo k) (periodTest (periodOf (periods xs))) (weightsTest m (common (periods xs)) (weights (common (periods xs)) xs)) (rw e) (λ z. omega arith))
+      leaves (inputTest m xs) (inputTest m xs) (refusal periodNo k)
+      (periodTest (periodOf (periods xs)) orElse weightsTest m (common (periods xs)) (weights (common (periods xs)) xs)) refl ok
+      (decides (refusal periodNo k) (periodTest (periodOf (periods xs))) (weightsTest m (common (periods xs)) (weights (common (periods xs)) xs))
+      (rw e) (λ z. omega arith))
 
   module _ (l : ℕ) (e : periodOf (periods xs) ≡ Common l) where
     is : l ≡ common (periods xs)
@@ -57,8 +60,10 @@ module _ (m : ℕ) (xs : List ℕ) (ok : inputTest m xs .no ≡ 0) where
     pub sum-decides : planRefusal m xs ≡ weightsTest m l (weights l xs)
     unfolding planRefusal
     sum-decides =
-        sym (leaves (inputTest m xs) (inputTest m xs) (weightsTest m l (weights l xs)) (periodTest (periodOf (periods xs)) orElse weightsTest m (common (periods xs)) (weights (common (periods xs)) xs)) refl ok
-        (leaves taken (periodTest (periodOf (periods xs))) (weightsTest m l (weights l xs)) (weightsTest m (common (periods xs)) (weights (common (periods xs)) xs)) (rw e) refl
+        sym (leaves (inputTest m xs) (inputTest m xs) (weightsTest m l (weights l xs))
+        (periodTest (periodOf (periods xs)) orElse weightsTest m (common (periods xs)) (weights (common (periods xs)) xs)) refl ok
+        (leaves taken (periodTest (periodOf (periods xs))) (weightsTest m l (weights l xs))
+        (weightsTest m (common (periods xs)) (weights (common (periods xs)) xs)) (rw e) refl
         (ap (λ (n : ℕ). weightsTest m n (weights n xs)) is)))
 
     -- 6

@@ -68,9 +68,11 @@ module _ (m : ℕ) (xs : List ℕ) where
   gives (one o) = sym (input-decides m xs (refusal coresNo 0) (input-one o) (λ z. omega arith))
   gives (two c o) = sym (input-decides m xs (refusal tableNo 0) (input-two c o) (λ z. omega arith))
   gives (three {k} r o) =
-      input-task k r (refusal rangeNo (suc k)) (tasks-out xs k (r .there) (r .before) (refusal rangeNo (suc k)) (task-three xs (suc k) k o) (λ z. omega arith)) (λ z. omega arith)
+      input-task k r (refusal rangeNo (suc k))
+      (tasks-out xs k (r .there) (r .before) (refusal rangeNo (suc k)) (task-three xs (suc k) k o) (λ z. omega arith)) (λ z. omega arith)
   gives (four {k} r i c) =
-      input-task k r (refusal costNo (suc k)) (tasks-out xs k (r .there) (r .before) (refusal costNo (suc k)) (task-four xs (suc k) k i c) (λ z. omega arith)) (λ z. omega arith)
+      input-task k r (refusal costNo (suc k))
+      (tasks-out xs k (r .there) (r .before) (refusal costNo (suc k)) (task-four xs (suc k) k i c) (λ z. omega arith)) (λ z. omega arith)
   gives (five {i} t f) = sym (over m xs (passed t) i (over-period (periods xs) i f))
   gives (six t p h) = sym (heavy m xs (passed t) (commonOf xs) (within t p) h)
 

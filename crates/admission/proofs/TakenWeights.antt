@@ -66,7 +66,8 @@ module _ (m : ℕ) (xs : List ℕ) (t : Taken m xs) where
       )
 
   -- sixty-four weights, none above L, that together are no more than M × L
-  pub padded-kept : (length (padded (weightsOf xs)) ≡ tasksLimit) × (most (padded (weightsOf xs)) ≤ commonOf xs) × (total (padded (weightsOf xs)) ≤ m * commonOf xs)
+  pub padded-kept : (length (padded (weightsOf xs)) ≡ tasksLimit) × (most (padded (weightsOf xs)) ≤ commonOf xs) ×
+      (total (padded (weightsOf xs)) ≤ m * commonOf xs)
   padded-kept =
       let n = weights-length (commonOf xs) xs in (
         padded-length (weightsOf xs) (omega (arith, t .table)),

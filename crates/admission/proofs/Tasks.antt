@@ -13,7 +13,8 @@ use Rattle.admission.proofs.First.{decides, leaves}
 
 -- task k + 1 of the table, and the tasks after it
 module _ (xs : List ℕ) (k : ℕ) (h : 2 * k + 1 < length xs) (f : Refusal) (e : f ≡ taskTest (k + 1) (getD xs (2 * k) 0) (getD xs (2 * k + 1) 0)) where
-  here : tasksTest (k + 1) (drop (2 * k) xs) ≡ (taskTest (k + 1) (getD xs (2 * k) 0) (getD xs (2 * k + 1) 0) orElse tasksTest (k + 1 + 1) (drop (2 * (k + 1)) xs))
+  here : tasksTest (k + 1) (drop (2 * k) xs) ≡
+      (taskTest (k + 1) (getD xs (2 * k) 0) (getD xs (2 * k + 1) 0) orElse tasksTest (k + 1 + 1) (drop (2 * (k + 1)) xs))
   here = rw (pair-drop xs k h, add-one (k + 1))
 
   -- a faulty task decides
@@ -22,7 +23,9 @@ module _ (xs : List ℕ) (k : ℕ) (h : 2 * k + 1 < length xs) (f : Refusal) (e 
 
   -- another leaves it to those after it
   pub tasks-go : f .no ≡ 0 → tasksTest (k + 1) (drop (2 * k) xs) ≡ tasksTest (k + 1 + 1) (drop (2 * (k + 1)) xs)
-  tasks-go z = here ∙ sym (leaves f (taskTest (k + 1) (getD xs (2 * k) 0) (getD xs (2 * k + 1) 0)) (tasksTest (k + 1 + 1) (drop (2 * (k + 1)) xs)) (tasksTest (k + 1 + 1) (drop (2 * (k + 1)) xs)) e z refl)
+  tasks-go z = here ∙ sym
+      (leaves f (taskTest (k + 1) (getD xs (2 * k) 0) (getD xs (2 * k + 1) 0)) (tasksTest (k + 1 + 1) (drop (2 * (k + 1)) xs))
+      (tasksTest (k + 1 + 1) (drop (2 * (k + 1)) xs)) e z refl)
 
 none : (i : ℕ) (ys : List ℕ) → length ys < 2 → tasksTest i ys ≡ taken
 none i [] h = refl

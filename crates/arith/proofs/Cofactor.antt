@@ -58,7 +58,8 @@ module _ (l : ℕ) (ts : List ℕ) where
           let pos : 0 < g = pos-of-dvd-of-pos into h in
           let m : l / g * g ≡ l = div-mul-cancel g into in
           let each : Each (λ t. t ∣ l / g) ts =
-          λ i b. dvd-of-mul-dvd-mul-right {k = g} (getD ts i 0) pos (rw (m, ← (mul-div-cancel' (getD ts i 0) (divides i b))) (mul-dvd-mul-left g (getD ts i 0) (d i b))) in
+          λ i b. dvd-of-mul-dvd-mul-right {k = g} (getD ts i 0) pos
+          (rw (m, ← (mul-div-cancel' (getD ts i 0) (divides i b))) (mul-dvd-mul-left g (getD ts i 0) (d i b))) in
           let back : l / g * g ∣ l / g * 1 = rw (m, mul-one (l / g)) (rw (← e) at (common-least ts (l / g) each)) in
           eq-one-of-dvd-one (dvd-of-mul-dvd-mul-left {k = l / g} g (pos-of-dvd-of-pos (rw m at (dvd-mul-right (l / g) g)) h) back)
 

@@ -69,5 +69,10 @@ module _ (xs : List ℕ) (best i : ℕ) (b : Best xs best i) (h : i < length xs)
   pub kept : getD xs i 0 ≤ getD xs best 0 → Best xs best (i + 1)
   kept k = record {
     within = omega (arith, b .within);
-    is = rw (add-one i, take-suc xs i 0 h, lower (take i xs) (getD xs i 0) (omega (arith, length-take-le i xs (omega arith), b .within)) (omega (arith, at-best))) (b .is);
+    is = rw (
+      add-one i,
+      take-suc xs i 0 h,
+      lower (take i xs) (getD xs i 0) (omega (arith, length-take-le i xs (omega arith), b .within))
+          (omega (arith, at-best)),
+    ) (b .is);
   }

@@ -32,8 +32,24 @@ next w room row left need i v u n g h ev eu en =
       below = omega arith;
       row-long = length-set row i v ∙ g .row-long;
       left-long = length-set left i u ∙ g .left-long;
-      given = rw (add-one i, take-suc-set row i v (omega (arith, g .row-long)), after, append-assoc (take i row) (v ∷ []) (cut n (drop (suc i) left)), ev, en) (g .given ∙ ap (λ (l : List ℕ). take i row ++ cut need l) cons);
-      kept = rw (add-one i, take-suc-set left i u (omega (arith, g .left-long)), after, append-assoc (take i left) (u ∷ []) (rest n (drop (suc i) left)), eu, en) (g .kept ∙ ap (λ (l : List ℕ). take i left ++ rest need l) cons);
+      given = rw (
+        add-one i,
+        take-suc-set row i v (omega (arith, g .row-long)),
+        after,
+        append-assoc (take i row) (v ∷ [])
+            (cut n (drop (suc i) left)),
+        ev,
+        en,
+      ) (g .given ∙ ap (λ (l : List ℕ). take i row ++ cut need l) cons);
+      kept = rw (
+        add-one i,
+        take-suc-set left i u (omega (arith, g .left-long)),
+        after,
+        append-assoc (take i left) (u ∷ [])
+            (rest n (drop (suc i) left)),
+        eu,
+        en,
+      ) (g .kept ∙ ap (λ (l : List ℕ). take i left ++ rest need l) cons);
     }
 
 -- past the last core

@@ -67,7 +67,8 @@ by-load l (w ∷ ws) loads h k =
     let p : ℕ = atLeast loads in
     let x : ℕ = getD loads p 0 in
     let at : atMost (roomOf l loads) ≡ p = atMost-atLeast l loads k in
-    let low : p < length loads = omega (arith, atMost-lt (roomOf l loads) (omega (arith, length-map loads (λ (y : ℕ). l - y))), length-map loads (λ (y : ℕ). l - y)) in
+    let low : p < length loads = omega
+    (arith, atMost-lt (roomOf l loads) (omega (arith, length-map loads (λ (y : ℕ). l - y))), length-map loads (λ (y : ℕ). l - y)) in
     let is : most (roomOf l loads) ≡ l - x = sym (atMost-is (roomOf l loads)) ∙ ap (λ (q : ℕ). getD (roomOf l loads) q 0) at ∙ room-at l loads p low in
     rw (is, fits-beside l x w (k p), at, length-map loads (λ (y : ℕ). l - y), room-less l loads p w)
     (by-cases (leb (x + w) l)
@@ -101,4 +102,5 @@ pub plan-by-load : (m l : ℕ) (ws : List ℕ) → passes ws (rooms m l) ≡ byL
 plan-by-load m l ws =
     let k : ℕ = coresLimit - m in
     rw (← full-room k l, ← empty-room m l (replicate k l))
-    (by-load l ws (loadsOf m l) (omega (arith, length-append (zeros m) (replicate k l), length-replicate {A = ℕ} m 0, length-replicate k l)) (start-within m k l))
+    (by-load l ws (loadsOf m l) (omega (arith, length-append (zeros m) (replicate k l), length-replicate {A = ℕ} m 0, length-replicate k l))
+    (start-within m k l))

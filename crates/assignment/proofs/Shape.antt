@@ -93,4 +93,5 @@ module _ (ws room : List ℕ) where
   shares-wide i h =
       let tab : List (List ℕ) = emptyRows (length ws) (length room) in
       wide-at (length room) (sharesOf ws room) i (omega (arith, shares-length))
-      (scatter-wide (length room) (order ws) (passes (inOrder ws) room) tab (passes-wide (length room) (inOrder ws) room refl) (blank-wide (length room) (length ws)))
+      (scatter-wide (length room) (order ws) (passes (inOrder ws) room) tab (passes-wide (length room) (inOrder ws) room refl)
+      (blank-wide (length room) (length ws)))

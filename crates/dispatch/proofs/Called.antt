@@ -1,44 +1,74 @@
--- What a call for a task may rely on once it has passed 15, 7, 12 and 8.
-use Prim.Native.Nat.{ℕ, _+_, _-_, _≤_, _<_}
+-- What a call may rely on once it has passed 15, 7 or 13, 12 and 8.
+use Prim.Native.Nat.{ℕ, _+_, _-_, _^_, _≤_, _<_}
 use mathlib.Core.Path.{_≡_}
+use mathlib.Core.Bool.{true}
 use native.Mathlib.Omega.{arith}
-use Rattle.units.specs.Limits.{tasksLimit, periodLimit, clockLimit}
-use Rattle.soundness.proofs.Facts.{period-small, weight-small, shares-sum}
-use Rattle.task_state.specs.Tests.{releaseTests}
-use Rattle.task_state.specs.Key.{deadlineOf}
+use borrow.Author.Tests.{eq-eqb}
+use Rattle.units.specs.Limits.{coresLimit, tasksLimit, periodLimit, clockLimit}
+use Rattle.soundness.proofs.Facts.{cores-few, period-small, weight-small, shares-sum}
+use Rattle.task_state.specs.Tests.{releaseTests, finishTests}
+use Rattle.task_state.specs.Key.{deadlineOf, waits}
 use Rattle.task_state.specs.Runs.{Releasable}
-use Rattle.task_state.proofs.Facts.{Facts, facts}
-use Rattle.task_state.proofs.Passed.{releasable}
+use Rattle.task_state.proofs.Facts.{facts}
+use Rattle.task_state.proofs.Passed.{releasable, has-run}
 use Rattle.dispatch.specs.declared.Record.{Record}
 use Rattle.dispatch.specs.Record.{lineAt, stateAt}
-use Rattle.dispatch.proofs.Held.{Held, held, task-below, state-sound, due-small}
-use Rattle.dispatch.proofs.Passed.{Passed}
+use Rattle.dispatch.specs.Refusals.{taskTests, lookRefusal, releaseRefusal, finishRefusal}
+use Rattle.dispatch.proofs.Held.{held, task-below, state-sound, due-small, waits-due}
+use Rattle.dispatch.proofs.Passed.{task-passed, look-passed}
 
-module _ (r : Record) (i t : ℕ) (p : Passed r (r .plan .count) i t) where
-  kept : Held r
-  kept = held r (p .sound)
-
-  -- the task, from 0
-  here : i - 1 < r .plan .count
-  here = omega (arith, p .from, p .to)
-
+-- task i, from 1, at time t: the numbers are in their ranges, the call's own tests decide, and a call that passes them can be taken
+pub record TaskCall (r : Record) (i t : ℕ) : Type 0 where
+  pub from : 0 < i
   pub below : i - 1 < tasksLimit
-  below = task-below r kept (i - 1) here
-
-  -- its period
   pub period : lineAt r (i - 1) .period .0 ≤ periodLimit
-  period = period-small (r .plan) (kept .plan) (i - 1) here
-
-  -- its state
-  pub state : Facts (lineAt r (i - 1)) (stateAt r (i - 1))
-  state = facts (lineAt r (i - 1)) (stateAt r (i - 1)) (state-sound r kept (i - 1) here)
-
-  -- a release that its own tests let pass
+  pub last : stateAt r (i - 1) .last .0 ≤ clockLimit
+  pub time-fits : t < 2 ^ 63
+  pub due-fits : deadlineOf (stateAt r (i - 1)) < 2 ^ 63
+  pub release-number : releaseRefusal r i t ≡ releaseTests (lineAt r (i - 1)) (stateAt r (i - 1)) t
+  pub finish-number : finishRefusal r i t ≡ finishTests (stateAt r (i - 1))
   pub can-release : releaseTests (lineAt r (i - 1)) (stateAt r (i - 1)) t ≡ 0 → Releasable (lineAt r (i - 1)) (stateAt r (i - 1)) t
-  can-release e =
-      releasable (lineAt r (i - 1)) (stateAt r (i - 1)) t e state
-      (weight-small (r .plan) (kept .plan) (i - 1) here) (shares-sum (r .plan) (kept .plan) (i - 1) here) (p .limit) period
+  pub can-finish : finishTests (stateAt r (i - 1)) ≡ 0 → 0 < stateAt r (i - 1) .live
 
-  -- the deadline of its oldest run
-  pub oldest-small : deadlineOf (stateAt r (i - 1)) ≤ clockLimit + periodLimit
-  oldest-small = due-small r kept (i - 1) here
+-- so it is where none of 15, 7, 12 and 8 applies
+pub task-call : {r : Record} {i t : ℕ} → taskTests r i t ≡ 0 → TaskCall r i t
+unfolding releaseRefusal finishRefusal
+task-call {r} {i} {t} e =
+    let p = task-passed r i t e in
+    let k = held r (p .sound) in
+    let ln = lineAt r (i - 1) in
+    let st = stateAt r (i - 1) in
+    let h = p .here in
+    let f = facts ln st (state-sound r k (i - 1) h) in
+    let period = period-small (r .plan) (k .plan) (i - 1) h in
+    let weight = weight-small (r .plan) (k .plan) (i - 1) h in
+    let shares = shares-sum (r .plan) (k .plan) (i - 1) h in
+    record {
+      from = p .from;
+      below = task-below r k (i - 1) h;
+      period = period;
+      last = f .last;
+      time-fits = omega (arith, p .limit);
+      due-fits = omega (arith, due-small r k (i - 1) h);
+      release-number = rw (eq-eqb (taskTests r i t) 0 e);
+      finish-number = rw (eq-eqb (taskTests r i t) 0 e);
+      can-release = λ z. releasable ln st t z f weight shares (p .limit) period;
+      can-finish = λ z. has-run st z;
+    }
+
+-- core k, from 1: it is in its range, and a task that waits there has a deadline in its range
+pub record CoreCall (r : Record) (k : ℕ) : Type 0 where
+  pub from : 0 < k
+  pub few : k ≤ coresLimit
+  pub due : (i : ℕ) → i < tasksLimit → waits (stateAt r i) k ≡ true → deadlineOf (stateAt r i) ≤ clockLimit + periodLimit
+
+-- so it is where none of 15, 13, 12 and 8 applies
+pub core-call : {r : Record} {k : ℕ} (t : ℕ) → lookRefusal r k t ≡ 0 → CoreCall r k
+core-call {r} {k} t e =
+    let p = look-passed r k t e in
+    let s = held r (p .sound) in
+    record {
+      from = p .from;
+      few = omega (arith, p .to, cores-few (r .plan) (s .plan));
+      due = λ i h w. waits-due r s i k h w;
+    }

@@ -19,11 +19,11 @@ use Rattle.dispatch.specs.Refusals.{lookRefusal}
 use Rattle.dispatch.specs.Look.{bestOf, choiceFor, choiceOf, lookOf}
 use Rattle.dispatch.specs.Shape.{Good}
 use Rattle.dispatch.specs.Choice.{deadlineAt, keyAt, UpperOn, LowerOn, FixedOn, Least, None, First, TaskChoice, Chosen, as-upper, as-lower, as-fixed}
-use Rattle.dispatch.proofs.Held.{held}
-use Rattle.dispatch.proofs.Answers.{look-choice}
+use Rattle.dispatch.proofs.Held.{held, waits-in}
+use Rattle.dispatch.proofs.Answers.{look-taken}
 use Rattle.soundness.proofs.SoundKept.{sound-kept}
 use Rattle.dispatch.proofs.Search.{Found, found}
-use Rattle.dispatch.proofs.Waiting.{Keyed, upper-key, lower-key, fixed-key, key-upper, key-lower, key-fixed, waits-in, waits-keyed}
+use Rattle.dispatch.proofs.Waiting.{Keyed, upper-key, lower-key, fixed-key, key-upper, key-lower, key-fixed, waits-keyed}
 
 module _ (r : Record) (k : ℕ) where
   -- the task that the search finds has the least key of those that wait there, and the lowest number at a tie
@@ -99,7 +99,8 @@ module _ (r : Record) (g : Good r) (k : ℕ) where
   chosen-by zero d f = inl (f, refl)
   chosen-by (suc j) d f =
       let c = f .1 in
-      inr (j, waits-in r g k j (c .within) (c .waiting), least-first j c, answer-for j d (f .0) (waits-keyed r g k j (c .within) (c .waiting)))
+      let h = waits-in r (held r (g .sound)) j k (c .within) (c .waiting) in
+      inr (j, h, least-first j c, answer-for j d (f .0) (waits-keyed r g k j (c .within) (c .waiting)))
 
   -- the choice is the one that document 01 describes
   pub choice-first : Chosen r k (choiceOf r k)
@@ -108,7 +109,7 @@ module _ (r : Record) (g : Good r) (k : ℕ) where
 
   -- and so is an accepted look's
   pub look-first : (t : ℕ) → lookRefusal r k t ≡ 0 → Chosen r k (lookOf r k t .choice)
-  look-first t e = rw (look-choice r k t e) choice-first
+  look-first t e = rw (look-taken r k t refl e refl) choice-first
 
   -- a task's row in the table
   row-at : (i : ℕ) → getD (sharesTable (r .plan)) i [] ≡ rowOf (lineAt r i)

@@ -4,7 +4,7 @@ use mathlib.Core.Path.{_≡_}
 use mathlib.Core.Bool.{true, not, _&&_}
 use native.Mathlib.Omega.{arith}
 use lib.Dec.{ltb, eqb}
-use borrow.Author.Tests.{eqb-true, ltb-true, ltb-false, leb-true, lt-ltb, le-ltb, le-leb}
+use borrow.Author.Tests.{eqb-true, ltb-true, leb-true, lt-ltb, le-leb}
 use Rattle.units.specs.Limits.{tasksLimit, periodLimit, clockLimit}
 use Rattle.lists.specs.Lists.{total}
 use Rattle.lists.specs.Below.{allBelow}
@@ -12,6 +12,7 @@ use Rattle.lists.proofs.Tests.{by-cases, and-left, and-right, and-true}
 use Rattle.lists.proofs.Below.{all-at, all-from}
 use Rattle.soundness.specs.Plan.{planSound}
 use Rattle.soundness.proofs.Facts.{tasks-few, period-small}
+use Rattle.task_state.specs.declared.State.{State}
 use Rattle.task_state.specs.State.{runAt}
 use Rattle.task_state.specs.Sound.{stateSound, runsEmpty, stateEmpty}
 use Rattle.task_state.specs.Key.{deadlineOf, waits}
@@ -51,31 +52,37 @@ sound r h =
     (and-true a b (le-leb (r .clock .0) clockLimit (h .clock)) (h .plan))
     (all-from tasksLimit (stateOk (r .plan) (r .states)) (h .states))
 
-module _ (r : Record) (k : Held r) (i : ℕ) where
+-- an empty state waits on no core
+empty-waits : (st : State) (k : ℕ) → stateEmpty st ≡ true → waits st k ≡ true → ⊥
+empty-waits st k e w =
+    let a = eqb (total (st .counts)) 0 && eqb (st .place) 0 && eqb (st .last .0) 0 && not (st .had) in
+    let b = eqb (st .live) 0 in
+    let none = eqb-true (st .live) 0 (and-right a b (and-left (a && b) (runsEmpty st) e)) in
+    let some = ltb-true 0 (st .live) (and-left (ltb 0 (st .live)) (eqb (runAt st 0 .core) k) w) in
+    omega (arith, none, some)
+
+module _ (r : Record) (s : Held r) (i : ℕ) where
   module _ (h : i < r .plan .count) where
     -- a task's number is below the limit
     pub task-below : i < tasksLimit
-    task-below = omega (arith, tasks-few (r .plan) (k .plan))
+    task-below = omega (arith, tasks-few (r .plan) (s .plan))
 
     -- its state is sound
     pub state-sound : stateSound (lineAt r i) (stateAt r i) ≡ true
-    state-sound = rw (lt-ltb i (r .plan .count) h) at (k .states i task-below)
+    state-sound = rw (lt-ltb i (r .plan .count) h) at (s .states i task-below)
 
     -- and the deadline of its oldest run is small
     pub due-small : deadlineOf (stateAt r i) ≤ clockLimit + periodLimit
-    due-small = omega (arith, oldest-due (lineAt r i) (stateAt r i) (facts (lineAt r i) (stateAt r i) state-sound), period-small (r .plan) (k .plan) i h)
+    due-small = omega (arith, oldest-due (lineAt r i) (stateAt r i) (facts (lineAt r i) (stateAt r i) state-sound), period-small (r .plan) (s .plan) i h)
 
-  -- a task past the N has no run
-  no-run : r .plan .count ≤ i → i < tasksLimit → stateAt r i .live ≡ 0
-  no-run h l =
-      let st = stateAt r i in
-      let e : stateEmpty st ≡ true = rw (le-ltb i (r .plan .count) h) at (k .states i l) in
-      let a = eqb (total (st .counts)) 0 && eqb (st .place) 0 && eqb (st .last .0) 0 && not (st .had) in
-      eqb-true (st .live) 0 (and-right a (eqb (st .live) 0) (and-left (a && eqb (st .live) 0) (runsEmpty st) e))
+  module _ (k : ℕ) (l : i < tasksLimit) (w : waits (stateAt r i) k ≡ true) where
+    -- a task that waits on a core is one of the N tasks
+    pub waits-in : i < r .plan .count
+    waits-in =
+        by-cases (ltb i (r .plan .count))
+        (λ e. ltb-true i (r .plan .count) e)
+        (λ e. absurd (empty-waits (stateAt r i) k (rw e at (s .states i l)) w))
 
-  -- a task that waits has a deadline that is small
-  pub waits-due : (core : ℕ) → i < tasksLimit → waits (stateAt r i) core ≡ true → deadlineOf (stateAt r i) ≤ clockLimit + periodLimit
-  waits-due core h w =
-      by-cases (ltb i (r .plan .count))
-      (λ e. due-small (ltb-true i (r .plan .count) e))
-      (λ e. absurd (omega (arith, no-run (ltb-false i (r .plan .count) e) h, ltb-true 0 (stateAt r i .live) (and-left (ltb 0 (stateAt r i .live)) (eqb (runAt (stateAt r i) 0 .core) core) w))))
+    -- so its deadline is small
+    pub waits-due : deadlineOf (stateAt r i) ≤ clockLimit + periodLimit
+    waits-due = due-small waits-in

@@ -1,9 +1,8 @@
 -- Each call keeps a good record good, whatever its numbers.
-use Prim.Native.Nat.{ℕ, _-_, _<_}
-use mathlib.Core.Path.{_≡_, sym, subst}
+use Prim.Native.Nat.{ℕ, _-_}
+use mathlib.Core.Path.{_≡_, refl}
 use native.Mathlib.Decide.{ℕ-discrete}
-use native.Mathlib.Omega.{arith}
-use Rattle.task_state.specs.Runs.{withRun, withoutRun}
+use Rattle.task_state.specs.Runs.{withRun, takenRun, withoutRun}
 use Rattle.task_state.proofs.Facts.{facts, turnable}
 use Rattle.task_state.proofs.Passed.{has-room}
 use Rattle.task_state.proofs.Taken.{with-shaped, with-sound}
@@ -22,22 +21,23 @@ use Rattle.dispatch.proofs.Answers.{release-refused, finish-refused, lo
 module _ (r : Record) (i t : ℕ) (g : Good r) where
   -- a release
   pub release-good : Good (releaseOf r i t .next)
+  unfolding takenRun
   release-good = go (ℕ-discrete (releaseRefusal r i t) 0)
     where
       go : Dec (releaseRefusal r i t ≡ 0) → Good (releaseOf r i t .next)
-      go (no n) = subst Good (sym (release-refused r i t n)) g
+      go (no n) = rw (release-refused r i t refl n) g
       go (yes e) =
           let p = release-passed r i t e in
           let ln = lineAt r (i - 1) in
           let st = stateAt r (i - 1) in
-          let h : i - 1 < r .plan .count = omega (arith, p .0 .from, p .0 .to) in
+          let h = p .0 .here in
           let l = task-lined r g (i - 1) h in
           let wide = task-wide r g (i - 1) h in
           let sh = task-shaped r g (i - 1) h in
           let s = task-sound r g (i - 1) h in
           let f = facts ln st s in
           let turn = turnable ln st f (l .small) (l .shares) in
-          subst Good (sym (release-taken r i t e))
+          rw (release-taken r i t refl e refl)
           (moved-good r g (i - 1) h (withRun ln st t) t (p .0 .limit)
           (with-shaped ln st t wide sh turn)
           (with-sound ln st t wide sh turn (has-room ln st t (p .1) (f .few)) (p .0 .limit) s))
@@ -47,13 +47,13 @@ module _ (r : Record) (i t : ℕ) (g : Good r) where
   finish-good = go (ℕ-discrete (finishRefusal r i t) 0)
     where
       go : Dec (finishRefusal r i t ≡ 0) → Good (finishOf r i t .next)
-      go (no n) = subst Good (sym (finish-refused r i t n)) g
+      go (no n) = rw (finish-refused r i t refl n) g
       go (yes e) =
           let p = finish-passed r i t e in
-          let h : i - 1 < r .plan .count = omega (arith, p .0 .from, p .0 .to) in
+          let h = p .0 .here in
           let sh = task-shaped r g (i - 1) h in
           let s = task-sound r g (i - 1) h in
-          subst Good (sym (finish-taken r i t e))
+          rw (finish-taken r i t refl e refl refl)
           (moved-good r g (i - 1) h (withoutRun (stateAt r (i - 1))) t (p .0 .limit)
           (without-shaped (stateAt r (i - 1)) sh)
           (without-sound (lineAt r (i - 1)) (stateAt r (i - 1)) sh s))
@@ -63,5 +63,5 @@ module _ (r : Record) (i t : ℕ) (g : Good r) where
   look-good = go (ℕ-discrete (lookRefusal r i t) 0)
     where
       go : Dec (lookRefusal r i t ≡ 0) → Good (lookOf r i t .next)
-      go (no n) = subst Good (sym (look-refused r i t n)) g
-      go (yes e) = subst Good (sym (look-taken r i t e)) (timed-good r g t (look-passed r i t e .limit))
+      go (no n) = rw (look-refused r i t refl n) g
+      go (yes e) = rw (look-taken r i t refl e refl) (timed-good r g t (look-passed r i t e .limit))

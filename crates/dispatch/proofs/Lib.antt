@@ -1,7 +1,6 @@
 pub mod Held
 pub mod Passed
 pub mod Called
-pub mod Numbers
 pub mod Looking
 pub mod Stored
 pub mod Records

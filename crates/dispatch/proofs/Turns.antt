@@ -18,7 +18,7 @@ use Rattle.turn.specs.declared.Turn.{Turn}
 use Rattle.turn.specs.Runs.{turnAfter as afterRuns, coreOfRun}
 use Rattle.task_state.specs.declared.State.{State}
 use Rattle.task_state.specs.State.{freshState, noState}
-use Rattle.task_state.specs.Runs.{turnAt, withRun, withoutRun}
+use Rattle.task_state.specs.Runs.{turnAt, withRun, takenRun, withoutRun}
 use Rattle.dispatch.specs.declared.Record.{Record}
 use Rattle.dispatch.specs.declared.call.Call.{Call}
 use Rattle.dispatch.specs.declared.call.Call.the-variants.{Release, Finish, Look}
@@ -27,11 +27,10 @@ use Rattle.dispatch.specs.Refusals.{releaseRefusal, finishRefusal, lookR
 use Rattle.dispatch.specs.Finish.{finishOf}
 use Rattle.dispatch.specs.Look.{lookOf}
 use Rattle.dispatch.specs.Shape.{Good}
-use Rattle.dispatch.specs.Calls.{step, coreBy}
+use Rattle.dispatch.specs.Calls.{answeredOf, step, coreBy}
 use Rattle.dispatch.proofs.Records.{task-in}
 use Rattle.dispatch.proofs.Passed.{release-passed}
-use Rattle.dispatch.proofs.Answers.{release-answer, release-refused, finish-refused, look-refused, release-core}
-use Rattle.dispatch.proofs.Answers.{release-taken, finish-taken, look-taken}
+use Rattle.dispatch.proofs.Answers.{release-answer, release-refused, finish-refused, look-refused, release-taken, finish-taken, look-taken}
 use Rattle.dispatch.proofs.Always.{step-good, step-plan}
 
 -- counts and place after n runs
@@ -104,8 +103,8 @@ module _ (i : ℕ) (ln : Line) (r : Record) (n : ℕ) (h : Here i ln r n) where
   look-at k t = go (ℕ-discrete (lookRefusal r k t) 0)
     where
       go : Dec (lookRefusal r k t ≡ 0) → At ln (stateAt (lookOf r k t .next) (i - 1)) n
-      go (yes e) = rw (look-taken r k t e) (h .turns)
-      go (no z) = rw (look-refused r k t z) (h .turns)
+      go (yes e) = rw (look-taken r k t refl e refl) (h .turns)
+      go (no z) = rw (look-refused r k t refl z) (h .turns)
 
   -- a call that moves another task's state does too
   other-at : (j t : ℕ) (st : State) → (i - 1 ≡ j → ⊥) → At ln (stateAt (moved r j st t) (i - 1)) n
@@ -116,34 +115,35 @@ module _ (i : ℕ) (ln : Line) (r : Record) (n : ℕ) (h : Here i ln r n) where
   finish-at j t = go (ℕ-discrete (finishRefusal r j t) 0) (ℕ-discrete (i - 1) (j - 1))
     where
       go : Dec (finishRefusal r j t ≡ 0) → Dec (i - 1 ≡ j - 1) → At ln (stateAt (finishOf r j t .next) (i - 1)) n
-      go (no z) d = rw (finish-refused r j t z) (h .turns)
-      go (yes e) (no d) = rw (finish-taken r j t e) (other-at (j - 1) t (withoutRun (stateAt r (j - 1))) d)
+      go (no z) d = rw (finish-refused r j t refl z) (h .turns)
+      go (yes e) (no d) = rw (finish-taken r j t refl e refl refl) (other-at (j - 1) t (withoutRun (stateAt r (j - 1))) d)
       go (yes e) (yes d) =
-          rw (finish-taken r j t e, ← d, getD-set-same (r .states) (i - 1) (withoutRun (stateAt r (i - 1))) noState inside)
+          rw (finish-taken r j t refl e refl refl, ← d, getD-set-same (r .states) (i - 1) (withoutRun (stateAt r (i - 1))) noState inside)
           (at-finish ln (stateAt r (i - 1)) n (h .turns))
 
   -- a release
   release-next : (j : ℕ) (t : Ticks) → Next i ln r n (Release j t)
+  unfolding takenRun
   release-next j t = go (ℕ-discrete (releaseRefusal r j (t .0)) 0) (ℕ-discrete j i)
     where
       go : Dec (releaseRefusal r j (t .0) ≡ 0) → Dec (j ≡ i) → Next i ln r n (Release j t)
       go (no z) d = inl (
         rw (release-answer r j (t .0), ne-eqb (releaseRefusal r j (t .0)) 0 z) (none-either (eqb j i)),
-        here-on (Release j t) n (rw (release-refused r j (t .0) z) (h .turns)),
+        here-on (Release j t) n (rw (step, answeredOf, release-refused r j (t .0) refl z) (h .turns)),
       )
       go (yes e) (no d) = inl (
         rw (ne-eqb j i d),
         here-on (Release j t) n
-            (rw (release-taken r j (t .0) e)
+            (rw (step, answeredOf, release-taken r j (t .0) refl e refl)
             (other-at (j - 1) (t .0) (withRun (lineAt r (j - 1)) (stateAt r (j - 1)) (t .0))
             (λ q. d (omega (arith, release-passed r j (t .0) e .0 .from, h .from))))),
       )
       go (yes e) (yes d) = inr (
-        rw (eq-eqb j i d, release-answer r j (t .0), eq-eqb (releaseRefusal r j (t .0)) 0 e, release-core r j (t .0) e, d, h .line)
+        rw (eq-eqb j i d, release-answer r j (t .0), eq-eqb (releaseRefusal r j (t .0)) 0 e, release-taken r j (t .0) refl e refl, d, h .line)
             (ap (λ (k : ℕ). k ∷ []) (at-core ln (stateAt r (i - 1)) n (h .turns))),
         here-on (Release j t) (suc n)
             (let st = withRun (lineAt r (i - 1)) (stateAt r (i - 1)) (t .0) in
-            rw (release-taken r j (t .0) e, d, getD-set-same (r .states) (i - 1) st noState inside, h .line)
+            rw (step, answeredOf, release-taken r j (t .0) refl e refl, d, getD-set-same (r .states) (i - 1) st noState inside, h .line)
             (at-release ln (stateAt r (i - 1)) n (h .turns) (t .0))),
       )
 

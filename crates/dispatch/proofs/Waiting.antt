@@ -1,15 +1,14 @@
 -- What is known of a task that waits on a core of a good record, and its key there.
 use Prim.Native.Nat.{ℕ, _+_, _-_, _≤_, _<_}
 use mathlib.Core.Path.{_≡_, ap}
-use mathlib.Core.Bool.{true, false, not, _&&_}
+use mathlib.Core.Bool.{true, false}
 use mathlib.Core.List.{List}
 use native.Mathlib.Omega.{arith}
 use lib.Dec.{ltb, eqb}
 use lib.ListN.{getD}
 use borrow.Author.Tests.{ltb-true, ltb-false, le-ltb, eqb-true, eq-eqb, lt-ltb}
-use Rattle.units.specs.Limits.{tasksLimit, runsLimit}
-use Rattle.lists.specs.Lists.{total, parts, bit}
-use Rattle.lists.specs.Below.{allBelow}
+use Rattle.units.specs.Limits.{tasksLimit}
+use Rattle.lists.specs.Lists.{parts, bit}
 use Rattle.lists.proofs.Tests.{by-cases, and-left, and-right, and-true}
 use Rattle.lists.proofs.Lists.{getD-le-sum, parts-some}
 use Rattle.assignment.specs.Movers.{has, fixed, moves, fixedOn, movesOn, lower, upper}
@@ -18,24 +17,14 @@ use Rattle.planning.specs.declared.Line.{Line}
 use Rattle.planning.specs.Plan.{rowOf}
 use Rattle.task_state.specs.declared.State.{State}
 use Rattle.task_state.specs.State.{runAt}
-use Rattle.task_state.specs.Sound.{runEmpty, stateEmpty}
-use Rattle.task_state.specs.Key.{deadlineOf, waits, keyOf}
+use Rattle.task_state.specs.Key.{deadlineOf, keyOf}
 use Rattle.task_state.proofs.Facts.{facts, unfinished}
 use Rattle.dispatch.specs.declared.Record.{Record}
 use Rattle.dispatch.specs.Record.{lineAt, stateAt}
 use Rattle.dispatch.specs.Shape.{Good}
 use Rattle.dispatch.specs.Choice.{Waits}
-use Rattle.dispatch.proofs.Held.{held}
+use Rattle.dispatch.proofs.Held.{held, waits-in}
 use Rattle.dispatch.proofs.Records.{task-sound}
-
--- a task that waits has an unfinished run
-empty-waits : (st : State) (k : ℕ) → stateEmpty st ≡ true → waits st k ≡ true → ⊥
-empty-waits st k e w =
-    let a = eqb (total (st .counts)) 0 && eqb (st .place) 0 && eqb (st .last .0) 0 && not (st .had) in
-    let b = eqb (st .live) 0 in
-    let c = allBelow runsLimit (λ j. runEmpty (runAt st j)) in
-    let z = eqb-true (st .live) 0 (and-right a b (and-left (a && b) c e)) in
-    omega (arith, z, ltb-true 0 (st .live) (and-left (ltb 0 (st .live)) (eqb (runAt st 0 .core) k) w))
 
 -- a task with a share on a core that is not upper or lower there is fixed
 row-fixed : (p : ℕ) (row : List ℕ) → has p row ≡ true → upper p row ≡ false → lower p row ≡ false → fixedOn p row ≡ true
@@ -81,14 +70,7 @@ module _ (ln : Line) (st : State) (k : ℕ) where
   key-fixed f = let s = fixed-still (k - 1) (rowOf ln) f in rw (s .0, s .1)
 
 module _ (r : Record) (g : Good r) (k i : ℕ) (h : i < tasksLimit) (w : Waits r k i) where
-  -- a task that waits is one of the N tasks
-  pub waits-in : i < r .plan .count
-  waits-in =
-      by-cases (ltb i (r .plan .count))
-      (λ e. ltb-true i (r .plan .count) e)
-      (λ e. absurd (empty-waits (stateAt r i) k (rw e at (held r (g .sound) .states i h)) w))
-
-  -- it has a share on the core
+  -- a task that waits has a share on the core
   waits-share : has (k - 1) (rowOf (lineAt r i)) ≡ true
   waits-share =
       let ln = lineAt r i in
@@ -96,7 +78,7 @@ module _ (r : Record) (g : Good r) (k i : ℕ) (h : i < tasksLimit) (w : Waits r
       let core = runAt st 0 .core in
       let live = ltb-true 0 (st .live) (and-left (ltb 0 (st .live)) (eqb core k) w) in
       let e = eqb-true core k (and-right (ltb 0 (st .live)) (eqb core k) w) in
-      lt-ltb 0 (getD (rowOf ln) (k - 1) 0) (rw e at (unfinished ln st (facts ln st (task-sound r g i waits-in)) 0 live .share))
+      lt-ltb 0 (getD (rowOf ln) (k - 1) 0) (rw e at (unfinished ln st (facts ln st (task-sound r g i (waits-in r (held r (g .sound)) i k h w))) 0 live .share))
 
   -- and a key there
   pub waits-keyed : Keyed (lineAt r i) (stateAt r i) k

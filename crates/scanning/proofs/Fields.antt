@@ -66,7 +66,8 @@ first-kept b (x ∷ l) at v a p e =
     let z : Kept b 0 (at + 1) v a = digits-kept b l (digitOf x) (at + 1) v a (omega arith) (rw (h, k) at e) in (z .0, omega (arith, z .1))))
     (λ h. no-value (rw h at e))
 
-followed-kept : (b : ℕ) (s : List ℕ) (x : ℕ) (n : Number) (at v a : ℕ) → ((w p : ℕ) → n ≡ Value w p → Kept b 1 at w p) → followedBy s x n ≡ Value v a → Kept b 2 at v a
+followed-kept : (b : ℕ) (s : List ℕ) (x : ℕ) (n : Number) (at v a : ℕ) → ((w p : ℕ) → n ≡ Value w p → Kept b 1 at w p) → followedBy s x n ≡ Value v a
+    → Kept b 2 at v a
 unfolding followedBy
 followed-kept b s x (Value w p) at v a f e =
     by-cases (eqb (getD s p 0) x)
@@ -86,14 +87,16 @@ KeptPair b at x y a = (x < b) × (y < b) × (at + 4 ≤ a)
 no-pair : {A : Type 0} {x y a : ℕ} → NoPair ≡ Two x y a → A
 no-pair e = let z : _≡_ {A = ℕ} 0 1 = cc in absurd (omega arith)
 
-second-kept : (b u : ℕ) (n : Number) (at p x y a : ℕ) → Kept b 2 at u p → ((w q : ℕ) → n ≡ Value w q → Kept b 2 p w q) → secondAfter u n ≡ Two x y a → KeptPair b at x y a
+second-kept : (b u : ℕ) (n : Number) (at p x y a : ℕ) → Kept b 2 at u p → ((w q : ℕ) → n ≡ Value w q → Kept b 2 p w q) → secondAfter u n ≡ Two x y a
+    → KeptPair b at x y a
 unfolding secondAfter
 second-kept b u (Value w q) at p x y a h f e =
     let i : u ≡ x = cc in let j : w ≡ y = cc in let z : q ≡ a = cc in let g = f w q refl in
     (omega (arith, h .0), omega (arith, g .0), omega (arith, h .1, g .1))
 second-kept b u NoNumber at p x y a h f e = no-pair e
 
-first-of-kept : (b : ℕ) (s : List ℕ) (n : Number) (at x y a : ℕ) → 10 ≤ b → ((w p : ℕ) → n ≡ Value w p → Kept b 2 at w p) → firstAfter b s n ≡ Two x y a → KeptPair b at x y a
+first-of-kept : (b : ℕ) (s : List ℕ) (n : Number) (at x y a : ℕ) → 10 ≤ b → ((w p : ℕ) → n ≡ Value w p → Kept b 2 at w p) → firstAfter b s n
+    ≡ Two x y a → KeptPair b at x y a
 unfolding firstAfter
 first-of-kept b s (Value w p) at x y a h f e =
     second-kept b w (fieldAt b s newline p) at p x y a (f w p refl) (λ v q k. field-kept b s newline p v q h k) e

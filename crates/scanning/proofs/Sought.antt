@@ -38,7 +38,8 @@ module _ (next : ℕ → ℕ) (n start from line at : ℕ) (h : Sought next n st
   later {place} k p q =
       let e : n + start - line ≡ suc (n + start - (line + 1)) = omega (arith, h .ahead) in
       let z : next at ≡ 0 → ⊥ = λ x. omega (arith, x, p, q) in
-      let r : unreadableFrom next (n + start - (line + 1)) n (line + 1) (next at) ≡ unreadableFrom next (n + start - (line + 1)) n (line + 1) place = rw p refl in
+      let r : unreadableFrom next (n + start - (line + 1)) n (line + 1) (next at) ≡ unreadableFrom next (n + start - (line + 1)) n
+      (line + 1) place = rw p refl in
       record { ahead = omega (arith, h .ahead); same = h .same ∙ later-line next n at _ _ e k line z ∙ r }
 
   -- one that cannot is the first

@@ -41,9 +41,11 @@ module _ (s : List ℕ) {r : Reading} (e : r ≡ answerOf (textOf s)) where
     is-few = omega (arith, text-fits s, said-count (textOf s) (sym e ∙ p))
 
     -- and they stand at the start of the lent table
-    pub is-read : (before : List ℕ) {table : List ℕ} → 2048 ≤ length before → table ≡ sets before 0 (tableSaid (textOf s)) → textOf s ≡ says m (take (n - 0) table)
+    pub is-read : (before : List ℕ) {table : List ℕ} → 2048 ≤ length before → table ≡ sets before 0 (tableSaid (textOf s)) → textOf s ≡ says m
+        (take (n - 0) table)
     is-read before {table} h t =
-        let z : take (n - 0) table ≡ tableSaid (textOf s) = ap₂ (λ (k : ℕ) (l : List ℕ). take k l) (sub-zero n ∙ said-count (textOf s) (sym e ∙ p)) t ∙ table-holds s before h in
+        let z : take (n - 0) table ≡ tableSaid (textOf s) = ap₂ (λ (k : ℕ) (l : List ℕ). take k l) (sub-zero n ∙ said-count (textOf s) (sym e ∙ p)) t
+        ∙ table-holds s before h in
         rw z (said-read (textOf s) (sym e ∙ p))
 
 -- a part of a table has no more numbers than were asked for

@@ -30,7 +30,8 @@ unfolding numbersFrom
 numbers-fit zero s at = omega arith
 numbers-fit (suc f) s at =
     by-cases (ltb at (length s))
-    (λ h. rw h (line-fits (length s) at (λ next. numbersFrom f s next) (taskLine s at) (ltb-true at (length s) h) (λ c t next e. task-kept s at c t next e .2) (λ next. numbers-fit f s next)))
+    (λ h. rw h (line-fits (length s) at (λ next. numbersFrom f s next) (taskLine s at) (ltb-true at (length s) h)
+    (λ c t next e. task-kept s at c t next e .2) (λ next. numbers-fit f s next)))
     (λ h. rw h (omega arith))
 
 -- a table that starts at the third byte or later

@@ -26,7 +26,8 @@ task-low c = c .before .before .before .pre .low (c .before .before .loop .i) (o
 
 -- and so is the core
 roomiest-low : (c : tie.After-roomiest Inv-loop μ-loop) → c .roomiest .result < coresLimit
-roomiest-low c = core-low (nums (c .before .before .before .before .loop .left .shares)) _ (c .before .before .before .before .loop .inv .0) (c .roomiest .ensures)
+roomiest-low c = core-low (nums (c .before .before .before .before .loop .left .shares)) _ (c .before .before .before .before .loop .inv .0)
+    (c .roomiest .ensures)
 
 loop-holds : tie.Need-loop-holds Inv-loop μ-loop
 loop-holds c = (search (needs, field-long), refl)
@@ -100,7 +101,8 @@ loop-again c =
     let have = nums-at (at .left .shares) (most .result) in (
       ap length (nums-set (at .left .shares) _ _) ∙ length-set (nums (at .left .shares)) _ _ ∙ at .inv .0,
       rw (rows-set (at .table), nums-set (at .left .shares), nums-set)
-          (one-next (s .args .t1) (s .pre) (at .i) (nums (s .args .t2)) _ _ _ _ _ _ (at .inv .0) (omega arith) refl (sym (nums-at (s .args .t2) _)) (most .ensures) (omega arith) (omega arith) ∙ at .inv .1),
+          (one-next (s .args .t1) (s .pre) (at .i) (nums (s .args .t2)) _ _ _ _ _ _ (at .inv .0) (omega arith) refl (sym (nums-at (s .args .t2) _))
+          (most .ensures) (omega arith) (omega arith) ∙ at .inv .1),
     )
 
 returns-2 : tie.Need-returns-2 Inv-loop μ-loop

@@ -14,7 +14,8 @@ use Rattle.assignment.proofs.pass_two.Tie as tie
 
 abbrev Inv-loop : tie.InvT-loop
 Inv-loop k order weights table₀ left₀ i₀ table left i =
-    assignTwo (nums weights) (from order i) (nums (left .shares)) (rowsOf table) ≡ assignTwo (nums weights) (from order i₀) (nums (left₀ .shares)) (rowsOf table₀)
+    assignTwo (nums weights) (from order i) (nums (left .shares)) (rowsOf table) ≡ assignTwo (nums weights) (from order i₀) (nums (left₀ .shares))
+    (rowsOf table₀)
 
 abbrev μ-loop : tie.MeasureT-loop
 μ-loop k order weights table₀ left₀ i₀ table left i = order .count - i

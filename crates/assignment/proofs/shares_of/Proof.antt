@@ -19,7 +19,8 @@ unfolding emptyRows
 returns c =
     let s = c .before .before in
     c .pass-one .ensures
-    ∙ rw (c .before .order-of .ensures) (shares-are (nums (s .args .weights)) (search (needs, nums-long)) (nums (s .args .room .shares)) (search (needs, field-long)))
+    ∙ rw (c .before .order-of .ensures)
+    (shares-are (nums (s .args .weights)) (search (needs, nums-long)) (nums (s .args .room .shares)) (search (needs, field-long)))
 
 pub shares-of-spec : {M : Type 1} → statement M
 shares-of-spec = tie.close (tie.spec order-of-requires pass-one-requires returns)

@@ -26,7 +26,8 @@ returns c =
     let room = c .before .before .rooms-of in
     let rows = c .before .shares-of in
     ap (λ (lns : List Line). record { cores = s .cores; count = length (s .table .now) / 2; common = s .common; lines = lns })
-    (c .lines-of .ensures ∙ ap (λ (tab : List (List ℕ)). paddedLines (linesOf (s .table .now) (nums (s .weights)) tab)) (rows .ensures ∙ ap (sharesOf (nums (s .weights))) (room .ensures)))
+    (c .lines-of .ensures ∙ ap (λ (tab : List (List ℕ)). paddedLines (linesOf (s .table .now) (nums (s .weights)) tab))
+    (rows .ensures ∙ ap (sharesOf (nums (s .weights))) (room .ensures)))
 
 pub drawn-spec : {M : Type 1} → statement M
 drawn-spec = tie.close (tie.spec rooms-of-requires shares-of-requires lines-of-requires returns)

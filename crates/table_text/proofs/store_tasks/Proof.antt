@@ -77,7 +77,8 @@ loop-again c =
     let l = n .before .loop in
     let s1 = c .before .before .before .before .before .before .store in
     let s2 = c .before .before .store2 in
-    more _ _ _ _ _ (l .inv) (k .c .given .0 .0) (k .c .given .0 .1 .0) (n .loop-test .taken) (sym (k .before .before .read-pair .ensures) ∙ k .c .given .1) (s1 .ensures) (s2 .ensures)
+    more _ _ _ _ _ (l .inv) (k .c .given .0 .0) (k .c .given .0 .1 .0) (n .loop-test .taken) (sym (k .before .before .read-pair .ensures)
+    ∙ k .c .given .1) (s1 .ensures) (s2 .ensures)
 
 mul-result-2 : tie.Need-mul-result-2 Inv-loop μ-loop
 mul-result-2 c = search needs

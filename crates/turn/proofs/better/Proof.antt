@@ -47,13 +47,25 @@ returns-3 : tie.Need-returns-3
 returns-3 c =
     let d = c .before .before .before .before in
     let best = d .before .before .args .best in
-    rw (opened (d .before), ← (d .ceil-div .ensures), ne-eqb (best .core) 0 (c .before .before .if2 .left), lt-ltb (d .ceil-div .result) (best .due) (omega arith))
+    rw (
+      opened (d .before),
+      ← (d .ceil-div .ensures),
+      ne-eqb (best .core) 0 (c .before .before .if2 .left),
+      lt-ltb (d .ceil-div .result) (best .due)
+          (omega arith),
+    )
 
 returns-4 : tie.Need-returns-4
 returns-4 c =
     let d = c .before .before .before .before in
     let best = d .before .before .args .best in
-    rw (opened (d .before), ← (d .ceil-div .ensures), ne-eqb (best .core) 0 (c .before .before .if2 .left), le-ltb (d .ceil-div .result) (best .due) (omega arith))
+    rw (
+      opened (d .before),
+      ← (d .ceil-div .ensures),
+      ne-eqb (best .core) 0 (c .before .before .if2 .left),
+      le-ltb (d .ceil-div .result) (best .due)
+          (omega arith),
+    )
 
 pub better-spec : {M : Type 1} → statement M
 better-spec =

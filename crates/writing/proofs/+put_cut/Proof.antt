@@ -73,7 +73,8 @@ same-length-2 t c = search needs
 returns-2 : (t : ℕ) → put-cut-lts.Need-returns-2 (claims t) (at t) put-cut.Post
 returns-2 t c =
     let s = c .before .before .before .before .before .before .before .before .before .before in
-    let w : Wrote _ _ (decimalOf (s .args .n)) _ _ = recast (sym (decimal-large (s .args .n) (search needs))) (then (c .before .before .before .before .before .before .put-cut .ensures .0) (c .before .before .put-byte2 .ensures)) in
+    let w : Wrote _ _ (decimalOf (s .args .n)) _ _ = recast (sym (decimal-large (s .args .n) (search needs)))
+    (then (c .before .before .before .before .before .before .put-cut .ensures .0) (c .before .before .put-byte2 .ensures)) in
     (w, omega (arith, w .end, decimal-length 19 (s .args .n) (omega arith)))
 
 pub +put-cut-spec : {M : Type 1} → statement M

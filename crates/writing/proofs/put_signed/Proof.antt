@@ -25,8 +25,11 @@ returns c =
     let p2 = c .before .before in
     let p1 = p2 .before .before .before .before in
     let i = p1 .before .before in
-    let s = c .before .before .before .before .before .before .before .before .before .before .before in
-    (recast (signed-below (s .args .z) _ (down (s .args .z) (s .fits .z) (i .if1 .taken)) (s .fits .z) (i .before .size .ensures)) (then (p1 .put-byte .ensures) (p2 .put-number .ensures .0)), search needs)
+    let s = c .before .before .before .before .before .before .before .before .before .before .before in (
+      recast (signed-below (s .args .z) _ (down (s .args .z) (s .fits .z) (i .if1 .taken)) (s .fits .z) (i .before .size .ensures))
+          (then (p1 .put-byte .ensures) (p2 .put-number .ensures .0)),
+      search needs,
+    )
 
 same-length-2 : tie.Need-same-length-2
 same-length-2 c = search needs
@@ -35,8 +38,11 @@ returns-2 : tie.Need-returns-2
 returns-2 c =
     let p1 = c .before .before in
     let i = p1 .before .before in
-    let s = c .before .before .before .before .before .before .before in
-    (recast (signed-above (s .args .z) _ (upward (s .args .z) (s .fits .z) (i .if1 .left)) (s .fits .z) (i .before .size .ensures)) (p1 .put-number2 .ensures .0), search needs)
+    let s = c .before .before .before .before .before .before .before in (
+      recast (signed-above (s .args .z) _ (upward (s .args .z) (s .fits .z) (i .if1 .left)) (s .fits .z) (i .before .size .ensures))
+          (p1 .put-number2 .ensures .0),
+      search needs,
+    )
 
 pub put-signed-spec : {M : Type 1} → statement M
 put-signed-spec =

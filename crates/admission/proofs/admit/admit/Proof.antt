@@ -15,7 +15,8 @@ returns : tie.Need-returns
 returns c =
     let s = c .before .before .before .before .before .args in
     let f = c .before .before .before .input-test in
-    c .refused .ensures ∙ answered (s .cores) (s .table .now) (f .result) (input-decides (s .cores) (s .table .now) (f .result) (f .ensures) (c .before .if1 .taken)) (c .before .if1 .taken)
+    c .refused .ensures ∙ answered (s .cores) (s .table .now) (f .result)
+    (input-decides (s .cores) (s .table .now) (f .result) (f .ensures) (c .before .if1 .taken)) (c .before .if1 .taken)
 
 admit-tasks-requires : tie.Need-admit-tasks-requires
 admit-tasks-requires c κs = sym (ap (λ (r : Refusal). r .no) (c .before .before .input-test .ensures)) ∙ c .if1 .left

@@ -30,7 +30,9 @@ known : (a : tie.After-l) → periodOf (periods (a .before .before .before .befo
 known a = sym (a .before .before .common-period .ensures) ∙ a .l .given .1
 
 weigh-requires : tie.Need-weigh-requires
-weigh-requires c κs = weighable (c .before .before .before .before .before .args .cores) (c .before .before .before .before .before .args .table .now) (c .before .before .before .before .before .pre) (c .before .l .given .0 .0) (known (c .before))
+weigh-requires c κs = weighable (c .before .before .before .before .before .args .cores)
+    (c .before .before .before .before .before .args .table .now) (c .before .before .before .before .before .pre) (c .before .l .given .0 .0)
+    (known (c .before))
 
 mul-if1 : tie.Need-mul-if1
 mul-if1 c =

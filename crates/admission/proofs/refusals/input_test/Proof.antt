@@ -11,7 +11,8 @@ returns : tie.Need-returns
 unfolding inputTest
 returns c =
     let s = c .before .before .before .before .args in
-    decides (c .before .before .cores-test .result) (coresTest (s .cores)) (tableTest (s .table .now) orElse tasksTest 1 (s .table .now)) (c .before .before .cores-test .ensures) (c .if1 .taken)
+    decides (c .before .before .cores-test .result) (coresTest (s .cores)) (tableTest (s .table .now) orElse tasksTest 1 (s .table .now))
+    (c .before .before .cores-test .ensures) (c .if1 .taken)
 
 table-test-requires : tie.Need-table-test-requires
 table-test-requires c κs = search needs
@@ -22,7 +23,8 @@ returns-2 c =
     let s = c .before .before .before .before .before .before .before .args in
     let one = c .before .before .before .before .before .cores-test in
     let two = c .before .before .table-test in
-    leaves (one .result) (coresTest (s .cores)) (two .result) (tableTest (s .table .now) orElse tasksTest 1 (s .table .now)) (one .ensures) (c .before .before .before .if1 .left)
+    leaves (one .result) (coresTest (s .cores)) (two .result) (tableTest (s .table .now) orElse tasksTest 1 (s .table .now)) (one .ensures)
+    (c .before .before .before .if1 .left)
     (decides (two .result) (tableTest (s .table .now)) (tasksTest 1 (s .table .now)) (two .ensures) (c .if2 .taken))
 
 tasks-test-requires : tie.Need-tasks-test-requires
@@ -35,7 +37,8 @@ returns-3 c =
     let one = c .before .before .before .before .before .before .cores-test in
     let two = c .before .before .before .table-test in
     let three = c .tasks-test in
-    leaves (one .result) (coresTest (s .cores)) (three .result) (tableTest (s .table .now) orElse tasksTest 1 (s .table .now)) (one .ensures) (c .before .before .before .before .if1 .left)
+    leaves (one .result) (coresTest (s .cores)) (three .result) (tableTest (s .table .now) orElse tasksTest 1 (s .table .now)) (one .ensures)
+    (c .before .before .before .before .if1 .left)
     (leaves (two .result) (tableTest (s .table .now)) (three .result) (tasksTest 1 (s .table .now)) (two .ensures) (c .before .if2 .left) (three .ensures))
 
 pub input-test-spec : {M : Type 1} → statement M

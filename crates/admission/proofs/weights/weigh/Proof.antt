@@ -54,7 +54,13 @@ add-total : tie.Need-add-total Inv-loop μ-loop
 add-total c =
     let s = c .before .before .before .before .before .before .before .before in
     let l = c .before .before .before .before .before .before .loop in
-    omega (arith, c .before .before .weight-of .ensures .1, s .pre .within, sum-small (s .args .common) (s .args .table .now) (nums (l .weights)) (l .sum .0) (l .k) (l .inv .1) (omega (arith, s .pre .short)) (s .pre .within))
+    omega (
+      arith,
+      c .before .before .weight-of .ensures .1,
+      s .pre .within,
+      sum-small (s .args .common) (s .args .table .now) (nums (l .weights))
+          (l .sum .0) (l .k) (l .inv .1) (omega (arith, s .pre .short)) (s .pre .within),
+    )
 
 add-k : tie.Need-add-k Inv-loop μ-loop
 add-k c = omega arith
@@ -69,7 +75,8 @@ loop-again c =
     let w = c .before .before .weight-of in (
       refl,
       rw (nums-set (l .weights) (l .k) (w .result))
-          (step (s .args .common) (s .args .table .now) (nums (l .weights)) (l .sum .0) (l .k) (w .result .0) (l .inv .1) (omega arith) (omega (arith, s .pre .short)) (w .ensures .0) (w .ensures .1)),
+          (step (s .args .common) (s .args .table .now) (nums (l .weights)) (l .sum .0) (l .k) (w .result .0) (l .inv .1) (omega arith)
+          (omega (arith, s .pre .short)) (w .ensures .0) (w .ensures .1)),
     )
 
 returns : tie.Need-returns Inv-loop μ-loop

@@ -11,7 +11,11 @@ mul-t5 : tie.Need-mul-t5
 mul-t5 c = omega (arith, weight-le (c .args .common) (c .args .cost) (c .args .period) (c .pre .1) (c .pre .2))
 
 returns : tie.Need-returns
-returns c = (weight-exact (c .args .common) (c .args .cost) (c .args .period) (c .pre .0) (c .pre .2), weight-le (c .args .common) (c .args .cost) (c .args .period) (c .pre .1) (c .pre .2))
+returns c = (
+  weight-exact (c .args .common) (c .args .cost) (c .args .period) (c .pre .0) (c .pre .2),
+  weight-le (c .args .common) (c .args .cost)
+      (c .args .period) (c .pre .1) (c .pre .2),
+)
 
 pub weight-of-spec : {M : Type 1} → statement M
 weight-of-spec = tie.close (tie.spec div-t4 mul-t5 returns)

@@ -1,16 +1,13 @@
 use Rattle.dispatch.proofs.Looking.{best-more, best-task, choice-idle, choice-by}
-use Rattle.dispatch.proofs.Numbers.{look-first, look-refused, look-taken}
-use Rattle.dispatch.proofs.Passed.{Passed, look-passed}
-use Rattle.dispatch.proofs.Held.{held, waits-due}
-use Rattle.soundness.proofs.Facts.{cores-few}
-use Rattle.dispatch.specs.Look.{bestOf, choiceOf, atTime}
+use Rattle.dispatch.proofs.Answers.{look-refused, look-taken}
+use Rattle.dispatch.proofs.Called.{CoreCall, core-call}
+use Rattle.dispatch.specs.Look.{bestOf, choiceOf}
 use Rattle.dispatch.specs.Refusals.{lookRefusal}
-use Rattle.dispatch.specs.declared.look.Choice.{Choice}
 use Rattle.units.specs.Limits.{tasksLimit}
 use native.Mathlib.Omega.{arith}
 use mathlib.Core.Logic.{⊎-elim}
-use mathlib.Core.Path.{_≡_, refl, sym, ap, ap₂, _∙_}
-use Prim.Native.Nat.{ℕ, _-_, _≤_}
+use mathlib.Core.Path.{_≡_, refl, sym, _∙_}
+use Prim.Native.Nat.{_-_, _≤_}
 use borrow.Author.Needs.{needs}
 use Rattle.dispatch.proofs.Record.look.Statement.{statement}
 use Rattle.dispatch.proofs.Record.look.Tie as tie
@@ -27,13 +24,22 @@ sound-requires c κs = search needs
 shared-tests-requires : tie.Need-shared-tests-requires Inv-loop μ-loop
 shared-tests-requires c κs = search needs
 
--- what was tested
-first : (c : tie.After-shared-tests Inv-loop μ-loop) → c .shared-tests .result ≡ lookRefusal (c .before .before .before .args .t1) (c .before .before .before .args .core) (c .before .before .before .args .time .0)
-first c = look-first (c .before .before .before .args .t1) (c .before .before .before .args .core) (c .before .before .before .args .time .0) (c .before .sound .result) (c .shared-tests .result) (c .before .sound .ensures) (c .shared-tests .ensures)
+-- the places where the call begins, and where it has passed its tests
+abbrev start : tie.Then1 Inv-loop μ-loop → tie.Start Inv-loop μ-loop
+start c = c .before .before .before .before
 
--- what is known after that
-known : (c : tie.Then1 Inv-loop μ-loop) → Passed (c .before .before .before .before .args .t1) (c .before .before .before .before .args .t1 .plan .cores) (c .before .before .before .before .args .core) (c .before .before .before .before .args .time .0)
-known c = look-passed (c .before .before .before .before .args .t1) (c .before .before .before .before .args .core) (c .before .before .before .before .args .time .0) (sym (first (c .before)) ∙ c .if1 .taken)
+abbrev passed : tie.At-loop Inv-loop μ-loop → tie.Then1 Inv-loop μ-loop
+passed c = c .before .before
+
+-- the look's number
+own : (c : tie.After-shared-tests Inv-loop μ-loop) → let s = c .before .before .before .args in
+    c .shared-tests .result ≡ lookRefusal (s .t1) (s .core) (s .time .0)
+unfolding lookRefusal
+own c = rw (c .before .sound .ensures) at (c .shared-tests .ensures)
+
+-- what is known if none applies
+known : (c : tie.Then1 Inv-loop μ-loop) → let s = start c .args in CoreCall (s .t1) (s .core)
+known c = core-call (start c .args .time .0) (sym (own (c .before)) ∙ c .if1 .taken)
 
 loop-holds : tie.Need-loop-holds Inv-loop μ-loop
 unfolding bestOf
@@ -56,58 +62,61 @@ add-i c = omega arith
 
 better-requires : tie.Need-better-requires Inv-loop μ-loop
 better-requires c κs =
-    let s = c .before .before .before .before .before .before .before .before .before .args in
-    let k = known (c .before .before .before .before .before) in
-    let h = held (s .t1) (k .sound) in
-    (k .from, omega (arith, k .to, cores-few (s .t1 .plan) (h .plan)), waits-due (s .t1) h (c .before .before .before .loop .i) (s .core) (omega arith))
+    let at = c .before .before .before in
+    let k = known (passed at) in
+    (k .from, k .few, k .due (at .loop .i) (omega arith))
 
 loop-less : tie.Need-loop-less Inv-loop μ-loop
 loop-less c = omega arith
 
 loop-again : tie.Need-loop-again Inv-loop μ-loop
 loop-again c =
-    let s = c .before .before .before .before .before .before .before .before .before .before .args in
-    let at = c .before .before .before .before .loop in
-    (omega arith, best-more (s .t1) (s .core) (at .i) (at .best) (c .better .result) (at .inv .1) (c .better .ensures))
+    let at = c .before .before .before .before in
+    let s = start (passed at) .args in
+    (omega arith, best-more (s .t1) (s .core) (at .loop .i) (at .loop .inv .1) (c .better .ensures))
 
 -- the best of all tasks
-best-is : (c : tie.After-loop Inv-loop μ-loop) → c .before .loop .best ≡ bestOf (c .before .before .before .before .before .before .before .args .t1) (c .before .before .before .before .before .before .before .args .core) tasksLimit
-best-is c =
+found : (c : tie.After-loop Inv-loop μ-loop) → let s = start (passed (c .before)) .args in c .before .loop .best ≡ bestOf (s .t1) (s .core) tasksLimit
+found c =
     let e : c .before .loop .i ≡ tasksLimit = omega arith in
-    c .before .loop .inv .1 ∙ ap (λ (n : ℕ). bestOf (c .before .before .before .before .before .before .before .args .t1) (c .before .before .before .before .before .before .before .args .core) n) e
+    rw e at (c .before .loop .inv .1)
+
+-- is one of them
+found-below : (c : tie.After-loop Inv-loop μ-loop) → c .before .loop .best .task ≤ tasksLimit
+found-below c = let s = start (passed (c .before)) .args in best-task (s .t1) (s .core) (found c)
 
 sub-at : tie.Need-sub-at Inv-loop μ-loop
 sub-at c = search needs
 
 mul-state-2 : tie.Need-mul-state-2 Inv-loop μ-loop
-mul-state-2 c = omega (arith, best-task (c .before .before .before .before .before .before .before .before .before .before .args .t1) (c .before .before .before .before .before .before .before .before .before .before .args .core) (c .before .before .before .before .loop .best) (best-is (c .before .before .before)))
+mul-state-2 c = omega (arith, found-below (c .before .before .before))
 
 element-copy-out-state-2 : tie.Need-element-copy-out-state-2 Inv-loop μ-loop
-element-copy-out-state-2 c = omega (arith, best-task (c .before .before .before .before .before .before .before .before .before .before .args .t1) (c .before .before .before .before .before .before .before .before .before .before .args .core) (c .before .before .before .before .loop .best) (best-is (c .before .before .before)), c .before .if2 .taken)
+element-copy-out-state-2 c = omega (arith, found-below (c .before .before .before), c .before .if2 .taken)
 
 choice-requires : tie.Need-choice-requires Inv-loop μ-loop
 choice-requires c κs = search needs
 
 -- the choice, whichever way it came
-chosen : (c : tie.Joined2 Inv-loop μ-loop) → c .if2 .choice ≡ choiceOf (c .before .before .before .before .before .before .before .before .before .args .t1) (c .before .before .before .before .before .before .before .before .before .args .core)
+chosen : (c : tie.Joined2 Inv-loop μ-loop) → let s = start (passed (c .before .before .before)) .args in c .if2 .choice ≡ choiceOf (s .t1) (s .core)
 chosen c =
-    let s = c .before .before .before .before .before .before .before .before .before .args in
-    let b = c .before .before .before .loop .best in
-    let e = best-is (c .before .before) in
+    let s = start (passed (c .before .before .before)) .args in
+    let e = found (c .before .before) in
     ⊎-elim
-    (λ t. t .4 ∙ choice-by (s .t1) (s .core) b e (t .3 .result) (t .3 .ensures))
-    (λ t. t .1 ∙ choice-idle (s .t1) (s .core) b e (omega (arith, t .0 .left)))
+    (λ t. t .4 ∙ choice-by (s .t1) (s .core) e (t .3 .ensures))
+    (λ t. t .1 ∙ choice-idle (s .t1) (s .core) e (omega (arith, t .0 .left)))
     (c .if2 .came)
 
 returns : tie.Need-returns Inv-loop μ-loop
 returns c =
-    let s = c .before .before .before .before .before .before .before .before .before .args in
-    let e = c .before .before .before .before .before .if1 .taken in
-    ap₂ (λ (n : ℕ) (x : Choice). record { refusal = n; choice = x; next = atTime (s .t1) (s .time .0) }) e (chosen c)
-    ∙ look-taken (s .t1) (s .core) (s .time .0) (sym (first (c .before .before .before .before .before .before)) ∙ e)
+    let k = passed (c .before .before .before) in
+    let s = start k .args in
+    sym (look-taken (s .t1) (s .core) (s .time .0) (own (k .before)) (k .if1 .taken) (chosen c))
 
 returns-2 : tie.Need-returns-2 Inv-loop μ-loop
-returns-2 c = look-refused (c .before .before .before .before .args .t1) (c .before .before .before .before .args .core) (c .before .before .before .before .args .time .0) (c .before .shared-tests .result) (first (c .before)) (c .if1 .left)
+returns-2 c =
+    let s = c .before .before .before .before .args in
+    sym (look-refused (s .t1) (s .core) (s .time .0) (own (c .before)) (c .if1 .left))
 
 pub look-spec : {M : Type 1} → statement M
 look-spec =

@@ -1,4 +1,9 @@
 use Rattle.units.specs.Limits.{clockLimit}
+use Rattle.units.specs.Refusals.{pastNo}
+use Rattle.dispatch.specs.Refusals.{sharedTests}
+use lib.Dec.{ltb}
+use mathlib.Core.Bool.{cond}
+use mathlib.Core.Path.{_≡_, sym, _∙_}
 use borrow.Author.Needs.{needs}
 use borrow.Author.Tests.{not-false, lt-ltb, le-ltb}
 use Rattle.dispatch.proofs.refusals.shared_tests.Statement.{statement}
@@ -17,15 +22,25 @@ returns-3 c =
     let s = c .before .before .before .before .args in
     rw (not-false (s .sound) (c .before .before .before .if1 .left), c .before .before .if2 .left, lt-ltb clockLimit (s .time .0) (c .if3 .taken))
 
+-- 15, the number for a wrong task or core and 12 do not apply: 8 decides
+past : (c : tie.Else3) → let s = c .before .before .before .before .args in
+    sharedTests (s .sound) (s .wrong) (s .n) (s .i) (s .clock .0) (s .time .0) ≡ cond (ltb (s .time .0) (s .clock .0)) pastNo 0
+past c =
+    let k = c .before .before in
+    let s = k .before .before .args in
+    rw (not-false (s .sound) (k .before .if1 .left), k .if2 .left, le-ltb clockLimit (s .time .0) (c .if3 .left))
+
 returns-4 : tie.Need-returns-4
 returns-4 c =
-    let s = c .before .before .before .before .before .before .before .args in
-    rw (not-false (s .sound) (c .before .before .before .before .before .before .if1 .left), c .before .before .before .before .before .if2 .left, le-ltb clockLimit (s .time .0) (c .before .before .before .if3 .left), lt-ltb (s .time .0) (s .clock .0) (c .if4 .taken))
+    let k = c .before .before .before in
+    let s = k .before .before .before .before .args in
+    sym (past k ∙ (rw (lt-ltb (s .time .0) (s .clock .0) (c .if4 .taken))))
 
 returns-5 : tie.Need-returns-5
 returns-5 c =
-    let s = c .before .before .before .before .before .before .before .args in
-    rw (not-false (s .sound) (c .before .before .before .before .before .before .if1 .left), c .before .before .before .before .before .if2 .left, le-ltb clockLimit (s .time .0) (c .before .before .before .if3 .left), le-ltb (s .time .0) (s .clock .0) (c .if4 .left))
+    let k = c .before .before .before in
+    let s = k .before .before .before .before .args in
+    sym (past k ∙ (rw (le-ltb (s .time .0) (s .clock .0) (c .if4 .left))))
 
 pub shared-tests-spec : {M : Type 1} → statement M
 shared-tests-spec = tie.close (tie.spec returns returns-2 returns-3 returns-4 returns-5)

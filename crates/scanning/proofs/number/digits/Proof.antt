@@ -39,7 +39,8 @@ add-w c = search needs
 returns-2 : tie.Need-returns-2 Inv-loop μ-loop
 returns-2 c =
     let l = c .before .before .before .before .before .loop in
-    sym (l .inv .2 ∙ digits-large _ _ _ _ _ (c .before .before .before .before .loop-test .taken) (c .before .before .digit .ensures .0) (c .before .if1 .left) (omega arith))
+    sym (l .inv .2 ∙ digits-large _ _ _ _ _ (c .before .before .before .before .loop-test .taken) (c .before .before .digit .ensures .0)
+    (c .before .if1 .left) (omega arith))
 
 add-at : tie.Need-add-at Inv-loop μ-loop
 add-at c = search needs
@@ -52,7 +53,8 @@ loop-again c =
     let l = c .before .before .before .before .before .loop in (
       search needs,
       search needs,
-      l .inv .2 ∙ digits-more _ _ _ _ _ (c .before .before .before .before .loop-test .taken) (c .before .before .digit .ensures .0) (c .before .if1 .left) (omega arith),
+      l .inv .2 ∙ digits-more _ _ _ _ _ (c .before .before .before .before .loop-test .taken) (c .before .before .digit .ensures .0)
+          (c .before .if1 .left) (omega arith),
     )
 
 returns-3 : tie.Need-returns-3 Inv-loop μ-loop

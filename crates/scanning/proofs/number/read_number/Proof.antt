@@ -27,7 +27,8 @@ digits-requires : tie.Need-digits-requires
 digits-requires c κs = search needs
 
 returns-4 : tie.Need-returns-4
-returns-4 c = c .digits .ensures ∙ sym (number-more _ _ _ 0 _ (search needs) (c .before .before .before .digit .ensures .0) (c .before .before .if2 .left) (c .before .if3 .left))
+returns-4 c = c .digits .ensures ∙ sym
+    (number-more _ _ _ 0 _ (search needs) (c .before .before .before .digit .ensures .0) (c .before .before .if2 .left) (c .before .if3 .left))
 
 pub read-number-spec : {M : Type 1} → statement M
 read-number-spec =
