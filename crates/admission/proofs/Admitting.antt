@@ -14,7 +14,8 @@ use Rattle.arith.proofs.Table.{periods-at, periods-length}
 use Rattle.arith.proofs.Common.{common-each}
 use Rattle.arith.proofs.Within.{period-common}
 use Rattle.units.specs.declared.refusal.Refusal.{Refusal}
-use Rattle.admission.specs.Weight.{weights, Weighable}
+use Rattle.admission.specs.Weight.{weights}
+use Rattle.admission.specs.Inner.{Weighable}
 use Rattle.admission.specs.Refusals.{_orElse_, inputTest, weightsTest}
 use Rattle.units.specs.Refusals.{refusal, taken, periodNo, weightsNo}
 use Rattle.admission.specs.Admission.{periodTest, planRefusal, refusedWith, takenWith, admissionOf}

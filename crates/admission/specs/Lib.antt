@@ -3,3 +3,4 @@ pub mod Refusals
 pub mod Admission
 pub mod Words
 pub mod Given
+pub mod Inner

@@ -68,7 +68,7 @@ fn tasks_test(table: &[u32]) -> Refusal
 }
 
 // Refusals 1 to 4.
-pub fn input_test(cores: u32, table: &[u32]) -> Refusal
+pub(crate) fn input_test(cores: u32, table: &[u32]) -> Refusal
     ensures { λ r. ⌜ r ≡ inputTest cores (now (table .entry)) ⌝ }
 {
     let first = cores_test(cores);

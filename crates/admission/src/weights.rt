@@ -5,12 +5,13 @@ ghost use mathlib.Core.Path.{_≡_};
 ghost use Prim.Native.Nat.{_≤_, _<_, _∣_};
 ghost use Rattle.lists.specs.Lists.{total as sumOf};
 ghost use Rattle.units.specs.Units.{nums};
-ghost use Rattle.admission.specs.Weight.{weight, weights as weightsOf, padded, Weighable};
+ghost use Rattle.admission.specs.Weight.{weight, weights as weightsOf, padded};
+ghost use Rattle.admission.specs.Inner.{Weighable};
 
 // Each task's weight, and their sum.
-pub struct Weighed {
-    pub weights: [Share; TASKS],
-    pub sum: Share,
+pub(crate) struct Weighed {
+    pub(crate) weights: [Share; TASKS],
+    pub(crate) sum: Share,
 }
 
 // C × L / T: the period divides L, so no product needs more than 32 bits.
@@ -21,7 +22,7 @@ fn weight_of(common: u32, cost: u32, period: u32) -> Share
     Share(common / period * cost)
 }
 
-pub fn weigh(table: &[u32], common: u32) -> Weighed
+pub(crate) fn weigh(table: &[u32], common: u32) -> Weighed
     requires { ⌜ Weighable common (now table) ⌝ }
     ensures { λ r. ⌜ (nums (r .weights) ≡ padded (weightsOf common (now (table .entry)))) × (r .sum .0 ≡ sumOf (weightsOf common (now (table .entry)))) ⌝ }
 {

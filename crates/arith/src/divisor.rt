@@ -17,7 +17,7 @@ pub fn gcd(a: u32, b: u32) -> u32
 }
 
 // The least common multiple, which may need more than 32 bits; a itself where b divides it.
-pub fn lcm(a: u32, b: u32) -> u64
+pub(crate) fn lcm(a: u32, b: u32) -> u64
     ensures { λ r. ⌜ r ≡ lcmOf a b ⌝ }
 {
     if b == 0 {

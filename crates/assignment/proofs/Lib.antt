@@ -17,3 +17,4 @@ pub mod Placed
 pub mod Properties
 pub mod Guarded
 pub mod RowPassed
+pub mod Stands

@@ -11,7 +11,7 @@ use Rattle.lists.proofs.Lists.{parts-len}
 use Rattle.ordering.specs.Order.{order, inOrder, orderedOf}
 use Rattle.ordering.proofs.Picks.{order-length, inOrder-length, order-place, inOrder-at}
 use Rattle.assignment.specs.Passes.{emptyRows, sharesOf}
-use Rattle.assignment.specs.Assign.{weigh, assign, from, Among}
+use Rattle.assignment.specs.Inner.{weigh, assign, from, Among}
 
 -- the weight of the i-th of some tasks
 weigh-at : (ws ts : List ℕ) (i : ℕ) → i < length ts → getD (weigh ws ts) i 0 ≡ getD ws (getD ts i 0) 0

@@ -14,7 +14,7 @@ use Rattle.units.specs.Units.{nums}
 use Rattle.ordering.specs.declared.Order.{Order}
 use Rattle.assignment.specs.declared.Row.{Row}
 use Rattle.assignment.specs.Passes.{cut, rest, rowsOf}
-use Rattle.assignment.specs.Assign.{assignTwo, assign, from, Among}
+use Rattle.assignment.specs.Inner.{assignTwo, assign, from, Among}
 
 -- a row stored
 pub rows-set : (rs : List Row) (t : ℕ) (r : Row) → rowsOf (set rs t r) ≡ set (rowsOf rs) t (nums (r .shares))

@@ -1,5 +1,6 @@
 // The two passes of assignment: which core has how much of which task.
 pub mod rows;
+pub mod standing;
 
 use ordering::Order;
 use ordering::order_of;
@@ -10,7 +11,7 @@ ghost use mathlib.Core.Path.{_≡_};
 ghost use Rattle.lists.specs.Lists.{atMost};
 ghost use Rattle.units.specs.Units.{nums};
 ghost use Rattle.assignment.specs.Passes.{cut as cutOf, rest as restOf, sharesOf, rowsOf};
-ghost use Rattle.assignment.specs.Assign.{assignTwo, assign, from, Among};
+ghost use Rattle.assignment.specs.Inner.{assignTwo, assign, from, Among};
 
 // A number for each core: one task's shares, or the cores' room.
 pub struct Row {

@@ -8,7 +8,7 @@ use Rattle.units.specs.Limits.{coresLimit, tasksLimit, periodLimit, clockLimit}
 use Rattle.soundness.proofs.Facts.{cores-few, period-small, weight-small, shares-sum}
 use Rattle.task_state.specs.Tests.{releaseTests, finishTests}
 use Rattle.task_state.specs.Key.{deadlineOf, waits}
-use Rattle.task_state.specs.Runs.{Releasable}
+use Rattle.task_state.specs.Inner.{Releasable}
 use Rattle.task_state.proofs.Facts.{facts}
 use Rattle.task_state.proofs.Passed.{releasable, has-run}
 use Rattle.dispatch.specs.declared.Record.{Record}

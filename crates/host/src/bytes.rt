@@ -10,9 +10,9 @@ ghost use Rattle.little_endian.specs.Number.{numbersOf};
 ghost use Rattle.host.specs.Inner.{filled, heldTable};
 
 // Numbers from the front, then zeros, and how many they are.
-pub struct Table {
-    pub numbers: [u32; 2 * TASKS],
-    pub count: usize,
+pub(crate) struct Table {
+    pub(crate) numbers: [u32; 2 * TASKS],
+    pub(crate) count: usize,
 }
 
 // The numbers of a table of at most 64 tasks, then zeros.
@@ -32,7 +32,7 @@ fn numbers_of(bytes: &[u8]) -> [u32; 2 * TASKS]
 }
 
 // A table's numbers; none where it ends inside a number or is none that planning takes, and planning refuses both alike.
-pub fn table_of(bytes: &[u8]) -> Table
+pub(crate) fn table_of(bytes: &[u8]) -> Table
     ensures { λ r. ⌜ r ≡ heldTable (now (bytes .entry)) ⌝ }
 {
     let n = bytes.len();

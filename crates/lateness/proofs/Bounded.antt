@@ -7,15 +7,14 @@ use native.Mathlib.Nat.{mul-le-mul}
 use Rattle.units.specs.Limits.{periodLimit, commonLimit}
 use Rattle.arith.specs.Ceiling.{ceilDiv}
 use Rattle.lateness.specs.declared.movers.Mover.{Mover}
-use Rattle.lateness.specs.Cores.{pushBy}
-use Rattle.lateness.specs.Small.{reachLimit, Small, SmallPair}
+use Rattle.lateness.specs.Inner.{pushBy, reachLimit, MoverInRange, PairInRange}
 
 -- s × (D + 2T) of a mover
-pub push-le : {rs : List ℕ} {m : Mover} → Small rs m → pushBy rs m ≤ commonLimit * (reachLimit + periodLimit)
+pub push-le : {rs : List ℕ} {m : Mover} → MoverInRange rs m → pushBy rs m ≤ commonLimit * (reachLimit + periodLimit)
 push-le k = mul-le-mul {n₂ = commonLimit} {m₂ = reachLimit + periodLimit} (k .share) (omega (arith, k .reach, k .period))
 
 -- that of both movers, and L × 2C of both
-pub work-le : {l : ℕ} {rs : List ℕ} {h m : Mover} → SmallPair l rs h m
+pub work-le : {l : ℕ} {rs : List ℕ} {h m : Mover} → PairInRange l rs h m
     → pushBy rs h + pushBy rs m + l * (2 * h .cost .0 + 2 * m .cost .0)
     ≤ 2 * (commonLimit * (reachLimit + periodLimit)) + commonLimit * (4 * periodLimit)
 work-le {l} {rs} {h} {m} k =

@@ -1,53 +1,42 @@
 -- One line more in front: on the cores where it is a mover it takes the place of what stood there.
 use Prim.Native.Nat.{ℕ, _+_, _<_}
 use mathlib.Core.Path.{_≡_, refl, sym, ap₂, _∙_}
-use mathlib.Core.Bool.{Bool, true, false, cond, not, _&&_}
+use mathlib.Core.Bool.{Bool, true, false, cond, and-false}
 use mathlib.Core.List.{List}
-use lib.Dec.{ltb, eqb}
+use lib.Dec.{eqb}
 use native.Mathlib.Omega.{arith}
 use lib.ListN.{length, getD, set, List·getD-map}
 use lib.Seq.{getD-set-same, getD-set-other}
 use borrow.Author.Tests.{lt-ltb, eqb-true, eqb-false, eq-eqb, ne-eqb}
 use Rattle.units.specs.Limits.{coresLimit}
-use Rattle.units.specs.declared.share.Share.{Share}
-use Rattle.units.specs.Units.{share, nums}
+use Rattle.units.specs.Units.{share}
 use Rattle.units.proofs.Units.{nums-at}
 use Rattle.lists.specs.Lists.{parts}
 use Rattle.lists.proofs.Tests.{by-cases}
 use Rattle.lists.proofs.Lists.{parts-le}
 use Rattle.lists.proofs.Parts.{first-has}
-use Rattle.assignment.specs.Movers.{movesOn, firstCore, upper, lower}
+use Rattle.lists.proofs.Filled.{Stored, store-next, store-skip}
+use Rattle.assignment.specs.Movers.{movesOn, firstCore, lower}
 use Rattle.assignment.proofs.Properties.{share-core}
 use Rattle.planning.specs.declared.Line.{Line}
 use Rattle.planning.specs.declared.Plan.{Plan}
 use Rattle.planning.specs.Plan.{noLine, rowOf}
 use Rattle.planning.specs.Kept.{PlanKept}
 use Rattle.lateness.specs.declared.movers.Mover.{Mover}
-use Rattle.lateness.specs.Cores.{mover, moverOn, noMover, InFront}
-use Rattle.lateness.proofs.Filled.{Filled, filled-set, filled-skip}
-
--- a test that does not hold
-and-false : (a b : Bool) → b ≡ false → (a && b) ≡ false
-and-false true b e = e
-and-false false b e = refl
+use Rattle.lateness.specs.Inner.{mover, moverOn, noMover, InFront}
 
 -- p cores are passed
 abbrev pub Front : (ℕ → Bool) → (ℕ → Mover) → List Mover → ℕ → List Mover → Type 0
-Front f g old p new = Filled noMover coresLimit (λ q. cond (f q) (g q) (getD old q noMover)) old p new
+Front f g old p new = Stored noMover coresLimit (λ q. cond (f q) (g q) (getD old q noMover)) old 0 p new
 
 module _ (f : ℕ → Bool) (g : ℕ → Mover) (old : List Mover) (p : ℕ) (new : List Mover) (k : Front f g old p new) (h : p < coresLimit) where
   -- a core where it is a mover
   pub front-set : (m : Mover) → m ≡ g p → f p ≡ true → Front f g old (p + 1) (set new p m)
-  front-set m i e = filled-set noMover coresLimit (λ q. cond (f q) (g q) (getD old q noMover)) old p new k h m (i ∙ rw e)
+  front-set m i e = store-next noMover coresLimit (λ q. cond (f q) (g q) (getD old q noMover)) old 0 p new m k h (i ∙ rw e)
 
   -- one where it is none
   pub front-skip : f p ≡ false → Front f g old (p + 1) new
-  front-skip e = filled-skip noMover coresLimit (λ q. cond (f q) (g q) (getD old q noMover)) old p new k h (rw e)
-
-module _ (ss : List Share) (p f : ℕ) (e : 1 < parts (nums ss)) (g : f ≡ firstCore (nums ss)) where
-  -- the test that the code makes of a line that moves, with its first core f
-  pub is-upper : (ltb 0 (getD ss p (share 0) .0) && not (eqb f p)) ≡ upper p (nums ss)
-  is-upper = rw (lt-ltb 1 (parts (nums ss)) e, g, nums-at ss p)
+  front-skip e = store-skip noMover coresLimit (λ q. cond (f q) (g q) (getD old q noMover)) old 0 p new k h (rw e)
 
 -- what the code keeps of a line is its mover
 pub as-mover : (ln : Line) (p f : ℕ) → f ≡ firstCore (rowOf ln) → mover (getD (ln .shares) p (share 0)) ln f ≡ moverOn p ln
@@ -70,7 +59,7 @@ pub lower-at : (row : List ℕ) (p : ℕ) → 1 < parts row → p ≡ firstCore 
 lower-at row p h e = rw (e, lt-ltb 1 (parts row) h, lt-ltb 0 (getD row (firstCore row) 0) (first-some row h), eq-eqb (firstCore row) (firstCore row) refl) refl
 
 lower-off : (row : List ℕ) (p : ℕ) → (p ≡ firstCore row → ⊥) → lower p row ≡ false
-lower-off row p h = and-false (movesOn p row) (eqb (firstCore row) p) (ne-eqb (firstCore row) p (λ e. h (sym e)))
+lower-off row p h = rw (ne-eqb (firstCore row) p (λ e. h (sym e))) (and-false (movesOn p row))
 
 -- so its place alone is taken among the lower movers
 pub lower-front : (ln : Line) (ms : List Mover) (f : ℕ) (m : Mover) → 1 < parts (rowOf ln) → f ≡ firstCore (rowOf ln) → m ≡ moverOn f ln

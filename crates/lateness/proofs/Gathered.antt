@@ -16,7 +16,7 @@ use Rattle.units.specs.Units.{share, ticks}
 use Rattle.lateness.specs.declared.movers.Mover.{Mover}
 use Rattle.lateness.specs.declared.movers.Movers.{Movers}
 use Rattle.lateness.specs.Lateness.{upperOn, lowerOn}
-use Rattle.lateness.specs.Cores.{moverOn, noMover, InFront, MoversOf}
+use Rattle.lateness.specs.Inner.{moverOn, noMover, InFront, MoversOf}
 use Rattle.lateness.proofs.Pair.{empty-share}
 
 -- the empty line as a mover

@@ -1,5 +1,3 @@
-pub mod Filled
-pub mod Noted
 pub mod Front
 pub mod Gathered
 pub mod Pair

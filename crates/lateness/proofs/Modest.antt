@@ -16,8 +16,7 @@ use Rattle.planning.specs.Plan.{emptyLine, rowOf}
 use Rattle.planning.specs.Kept.{PlanKept}
 use Rattle.lateness.specs.declared.movers.Movers.{Movers}
 use Rattle.lateness.specs.Lateness.{upperOn, lowerOn, shareOn, push, reachOn, fixedLate}
-use Rattle.lateness.specs.Cores.{moverOn, noMover, MoversOf, reachBy, pairLate}
-use Rattle.lateness.specs.Small.{reachLimit, SmallPair}
+use Rattle.lateness.specs.Inner.{moverOn, noMover, MoversOf, reachBy, pairLate, reachLimit, PairInRange}
 use Rattle.lateness.proofs.Words.{fixed-alone}
 use Rattle.lateness.proofs.Pair.{empty-share, empty-load, first-share, first-le, over-pair}
 
@@ -63,8 +62,8 @@ module _ (pl : Plan) (k : PlanKept pl) (p : ℕ) where
   fixed-beyond rs h = fixed-alone (pl .common) (k .common-some) rs (pl .lines) p (no-mover (k .structure) p (omega (arith, k .cores-few)))
 
   -- numbers small enough to work with
-  small-pair : (rs : List ℕ) → most rs ≤ reachLimit → SmallPair (pl .common) rs (moverOn p (upperOn p (pl .lines))) (moverOn p (lowerOn p (pl .lines)))
-  small-pair rs b =
+  pair-in-range : (rs : List ℕ) → most rs ≤ reachLimit → PairInRange (pl .common) rs (moverOn p (upperOn p (pl .lines))) (moverOn p (lowerOn p (pl .lines)))
+  pair-in-range rs b =
       let m = modest in
       let l = k .common-small in
       record {
@@ -77,8 +76,8 @@ module _ (pl : Plan) (k : PlanKept pl) (p : ℕ) where
   -- the movers as the code keeps them
   module _ (ms : Movers) (m : MoversOf (pl .lines) ms) (rs : List ℕ) (h : p < coresLimit) where
     -- their numbers are small enough
-    pub movers-small : most rs ≤ reachLimit → SmallPair (pl .common) rs (getD (ms .upper) p noMover) (getD (ms .lower) p noMover)
-    movers-small b = rw (m .uppers p h, m .lowers p h) (small-pair rs b)
+    pub movers-in-range : most rs ≤ reachLimit → PairInRange (pl .common) rs (getD (ms .upper) p noMover) (getD (ms .lower) p noMover)
+    movers-in-range b = rw (m .uppers p h, m .lowers p h) (pair-in-range rs b)
 
     -- their reach is that of the plan's
     pub movers-reach : reachBy (pl .common) rs (getD (ms .upper) p noMover) (getD (ms .lower) p noMover)

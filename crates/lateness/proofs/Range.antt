@@ -22,7 +22,7 @@ use Rattle.planning.specs.declared.Plan.{Plan}
 use Rattle.planning.specs.Plan.{noLine, rowOf}
 use Rattle.planning.specs.Kept.{PlanKept}
 use Rattle.lateness.specs.Lateness.{upperOn, lowerOn, shareOn, reachOf, reachOn, reaches, fixedLate, late, latesOf}
-use Rattle.lateness.specs.Small.{reachLimit, lateLimit}
+use Rattle.lateness.specs.Inner.{reachLimit, lateLimit}
 use Rattle.lateness.proofs.Modest.{Modest, modest, fixed-pair}
 
 -- the largest of two lists

@@ -4,11 +4,12 @@ use mathlib.Core.Path.{_≡_, refl, sym, ap, ap₂, _∙_}
 use mathlib.Core.List.{List, [], _∷_, _++_, append-assoc, append-nil}
 use native.Mathlib.Omega.{arith}
 use native.Mathlib.Numerals.{add-one}
-use lib.ListN.{length, getD, set, length-append, length-replicate}
+use lib.ListN.{length, set, length-append, length-replicate}
 use lib.Seq.{set-at}
 use Rattle.units.specs.Limits.{coresLimit, periodLimit}
 use Rattle.lists.specs.Lists.{zeros, most}
-use Rattle.lists.proofs.Lists.{zeros-at, zeros-most}
+use Rattle.lists.proofs.Lists.{zeros-most}
+use Rattle.lists.proofs.Filled.{default-after}
 use Rattle.assignment.specs.Movers.{firstCore}
 use Rattle.planning.specs.declared.Line.{Line}
 use Rattle.planning.specs.declared.Plan.{Plan}
@@ -16,12 +17,6 @@ use Rattle.planning.specs.Plan.{rowOf}
 use Rattle.planning.specs.Kept.{PlanKept}
 use Rattle.lateness.specs.Lateness.{upperOn, lowerOn, reachOn, reaches}
 use Rattle.lateness.proofs.Range.{most-append, reaches-le}
-
--- zeros past the end change no number
-zeros-after : (xs : List ℕ) (k q : ℕ) → getD (xs ++ zeros k) q 0 ≡ getD xs q 0
-zeros-after [] k q = zeros-at k q
-zeros-after (x ∷ xs) k zero = refl
-zeros-after (x ∷ xs) k (suc q) = zeros-after xs k q
 
 module _ (l : ℕ) (lns : List Line) where
   -- one for each core
@@ -48,7 +43,7 @@ module _ (l : ℕ) (lns : List Line) where
   -- a mover's reach asks for those alone
   reached-reach : (p : ℕ) (h ln : Line) → reachOn l (reached p) p h ln ≡ reachOn l (reaches l lns p) p h ln
   unfolding reachOn
-  reached-reach p h ln = rw (zeros-after (reaches l lns p) (coresLimit - p) (firstCore (rowOf h)))
+  reached-reach p h ln = rw (default-after 0 (reaches l lns p) (coresLimit - p) (firstCore (rowOf h)))
 
   -- one core more
   pub reached-next : (p : ℕ) → p < coresLimit → (rs : List ℕ) (v : ℕ) → rs ≡ reached p → v ≡ reachOn l rs p (upperOn p lns) (lowerOn p lns)

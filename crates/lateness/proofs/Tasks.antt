@@ -1,52 +1,63 @@
 -- Each task's bound, from the reaches of a plan's movers and the bounds of its fixed tasks by first core.
-use Prim.Native.Nat.{ℕ, zero, suc, _+_, _-_, _≤_, _<_}
-use mathlib.Core.Path.{_≡_, refl, sym, ap, ap₂, _∙_}
+use Prim.Native.Nat.{ℕ, zero, suc, _+_, _≤_, _<_}
+use mathlib.Core.Path.{_≡_, refl, sym, ap, _∙_}
+use mathlib.Core.Bool.{Bool, false}
 use mathlib.Core.List.{List, [], _∷_, map}
 use native.Mathlib.Omega.{arith}
 use lib.Dec.{ltb}
 use lib.IntN.{ℤ, pos}
-use lib.ListN.{length, getD, length-map, List·getD-eq-default}
+use lib.ListN.{length, getD, set, replicate, length-map, List·getD-eq-default}
 use lib.Seq.{ext-getD}
-use borrow.Author.Tests.{ltb-true, ltb-false, lt-ltb, le-ltb}
+use borrow.Author.Tests.{ltb-true, ltb-false}
 use Rattle.units.specs.Limits.{coresLimit, tasksLimit, periodLimit}
-use Rattle.lists.specs.Lists.{parts, most}
+use Rattle.lists.specs.Lists.{zeros, most}
 use Rattle.lists.proofs.Tests.{by-cases}
+use Rattle.lists.proofs.Filled.{Stored, stored-none, store-before}
 use Rattle.assignment.specs.Movers.{moves, firstCore}
 use Rattle.planning.specs.declared.Line.{Line}
 use Rattle.planning.specs.declared.Plan.{Plan}
 use Rattle.planning.specs.Plan.{noLine, rowOf}
 use Rattle.planning.specs.Kept.{PlanKept}
 use Rattle.lateness.specs.Lateness.{reaches, fixedLate, late, latesOf}
-use Rattle.lateness.specs.Cores.{gapOf, lateAt}
-use Rattle.lateness.specs.Small.{reachLimit, lateLimit}
-use Rattle.lateness.proofs.Noted.{Noted}
+use Rattle.lateness.specs.Inner.{lateAt, EachLate, reachLimit, lateLimit}
 use Rattle.lateness.proofs.Range.{reaches-le, fixed-le}
 
--- the first core of task i
-abbrev pub firstAt : Plan → ℕ → ℕ
-firstAt pl i = firstCore (rowOf (getD (pl .lines) i noLine))
+-- something of each task from i on
+abbrev pub Noted : {A : Type 0} → A → (Line → A) → Plan → List A → ℕ → List A → Type 0
+Noted d f pl old i now = Stored d tasksLimit (λ j. f (getD (pl .lines) j noLine)) old i tasksLimit now
 
--- its gap
-abbrev pub gapAt : Plan → ℕ → ℕ
-gapAt pl i = gapOf (getD (pl .lines) i noLine)
+-- whether it moves, its period and its first core
+pub record AllNoted (pl : Plan) (i : ℕ) (ms : List Bool) (ts ps : List ℕ) : Type 0 where
+  pub moving : Noted false (λ ln. moves (rowOf ln)) pl (replicate tasksLimit false) i ms
+  pub periods : Noted 0 (λ ln. ln .period .0) pl (zeros tasksLimit) i ts
+  pub firsts : Noted 0 (λ ln. firstCore (rowOf ln)) pl (zeros tasksLimit) i ps
 
--- the gap of a task that moves
-pub gap-moves : (ln : Line) → 1 < parts (rowOf ln) → ln .period .0 + 1 ≡ gapOf ln
-gap-moves ln h = rw (lt-ltb 1 (parts (rowOf ln)) h) refl
+-- none is noted
+pub noted-none : (pl : Plan) → AllNoted pl tasksLimit (replicate tasksLimit false) (zeros tasksLimit) (zeros tasksLimit)
+noted-none pl = record {
+  moving = stored-none false tasksLimit _ (replicate tasksLimit false) tasksLimit (omega arith) refl;
+  periods = stored-none 0 tasksLimit _ (zeros tasksLimit) tasksLimit (omega arith) refl;
+  firsts = stored-none 0 tasksLimit _ (zeros tasksLimit) tasksLimit (omega arith) refl;
+}
 
--- and of one that does not
-pub gap-fixed : (ln : Line) → parts (rowOf ln) ≤ 1 → 0 ≡ gapOf ln
-gap-fixed ln h = rw (le-ltb 1 (parts (rowOf ln)) h) refl
+-- one task more
+pub noted-next : (pl : Plan) (i : ℕ) (moving : List Bool) (periods firsts : List ℕ) → AllNoted pl (i + 1) moving periods firsts →
+    let ln = getD (pl .lines) i noLine in
+    (m : Bool) (p : ℕ) → m ≡ moves (rowOf ln) → p ≡ firstCore (rowOf ln)
+    → AllNoted pl i (set moving i m) (set periods i (ln .period .0)) (set firsts i p)
+noted-next pl i moving periods firsts k m p e g = record {
+  moving = store-before false tasksLimit _ _ i tasksLimit moving m (k .moving) e;
+  periods = store-before 0 tasksLimit _ _ i tasksLimit periods _ (k .periods) refl;
+  firsts = store-before 0 tasksLimit _ _ i tasksLimit firsts p (k .firsts) g;
+}
 
--- gaps are small
-gap-le : (ln : Line) → ln .period .0 ≤ periodLimit → gapOf ln ≤ periodLimit + 1
-gap-le ln h = by-cases (moves (rowOf ln)) (λ e. rw e (omega arith)) (λ e. rw e (omega arith))
-
-pub gaps-small : (pl : Plan) → PlanKept pl → (gaps : List ℕ) → Noted tasksLimit (gapAt pl) 0 gaps → (i : ℕ) → getD gaps i 0 ≤ periodLimit + 1
-gaps-small pl k gaps n i =
+-- periods are small
+pub periods-small : (pl : Plan) → PlanKept pl → (moving : List Bool) (periods firsts : List ℕ) → AllNoted pl 0 moving periods firsts
+    → (i : ℕ) → getD periods i 0 ≤ periodLimit
+periods-small pl k moving periods firsts n i =
     by-cases (ltb i tasksLimit)
-    (λ e. omega (arith, n .done i (omega arith) (ltb-true i tasksLimit e), gap-le (getD (pl .lines) i noLine) (k .periods i)))
-    (λ e. omega (arith, List·getD-eq-default gaps 0 {n = i} (omega (arith, n .long, ltb-false i tasksLimit e))))
+    (λ e. omega (arith, n .periods .done i (omega arith) (ltb-true i tasksLimit e), k .periods i))
+    (λ e. omega (arith, List·getD-eq-default periods 0 {n = i} (omega (arith, n .periods .long, ltb-false i tasksLimit e))))
 
 -- what stands at a place of a mapped list
 getD-map-in : {A B : Type 0} (f : A → B) (xs : List A) (i : ℕ) (d : A) (e : B) → i < length xs → getD (map f xs) i e ≡ f (getD xs i d)
@@ -65,29 +76,21 @@ module _ (pl : Plan) (rs : List ℕ) (is : rs ≡ reaches (pl .common) (pl .line
     fixed-small k p = rw (at p) (fixed-le pl k rs p (reaches-small k))
 
     -- a task's bound
-    late-at : (ln : Line) → lateAt rs fixed (firstCore (rowOf ln)) (gapOf ln) ≡ late (pl .common) rs (pl .lines) ln
+    late-at : (ln : Line) → lateAt rs fixed (moves (rowOf ln)) (ln .period .0) (firstCore (rowOf ln)) ≡ late (pl .common) rs (pl .lines) ln
     unfolding late
-    late-at ln =
-        let t : ℕ = ln .period .0 in
-        let e : t + 1 - 1 ≡ t = omega arith in
-        by-cases (moves (rowOf ln))
-        (λ m. rw (m, lt-ltb 0 (t + 1) (omega arith), e) refl)
-        (λ m. rw (m, at (firstCore (rowOf ln))) refl)
+    late-at ln = rw (at (firstCore (rowOf ln))) refl
 
     -- together they are the plan's
-    pub tasks-late : (firsts gaps : List ℕ) (lates : List ℤ) → length (pl .lines) ≡ tasksLimit → length lates ≡ tasksLimit
-        → Noted tasksLimit (firstAt pl) 0 firsts → Noted tasksLimit (gapAt pl) 0 gaps
-        → ((i : ℕ) → i < tasksLimit → getD lates i (pos 0) ≡ lateAt rs fixed (getD firsts i 0) (getD gaps i 0))
-        → lates ≡ latesOf pl
+    pub tasks-late : (moving : List Bool) (periods firsts : List ℕ) (lates : List ℤ) → length (pl .lines) ≡ tasksLimit → length lates ≡ tasksLimit
+        → AllNoted pl 0 moving periods firsts → EachLate rs fixed moving periods firsts lates → lates ≡ latesOf pl
     unfolding latesOf
-    tasks-late firsts gaps lates l m f g h =
+    tasks-late moving periods firsts lates l m n h =
         let all : List ℕ = reaches (pl .common) (pl .lines) coresLimit in
         ext-getD (pos 0) lates (latesOf pl) (m ∙ sym l ∙ sym (length-map (pl .lines) (late (pl .common) all (pl .lines))))
         (λ i k.
         let b : i < tasksLimit = omega (arith, m) in
         let ln : Line = getD (pl .lines) i noLine in
         h i b
-        ∙ ap₂ (lateAt rs fixed) (f .done i (omega arith) b) (g .done i (omega arith) b)
-        ∙ late-at ln
+        ∙ rw (n .moving .done i (omega arith) b, n .periods .done i (omega arith) b, n .firsts .done i (omega arith) b) (late-at ln)
         ∙ ap (λ (xs : List ℕ). late (pl .common) xs (pl .lines) ln) is
         ∙ sym (getD-map-in (late (pl .common) all (pl .lines)) (pl .lines) i noLine (pos 0) (omega (arith, l))))

@@ -1,3 +1,2 @@
 pub mod Lateness
-pub mod Cores
-pub mod Small
+pub mod Inner

@@ -6,19 +6,18 @@ use crate::movers::with_line;
 use arith::ceiling::ceil_div;
 use assignment::rows::first_core;
 use assignment::rows::parts_of;
+use assignment::standing::moves_by;
 use planning::Plan;
 use units::limits::CORES;
 use units::limits::TASKS;
 ghost use Prim.Native.Nat.{ℕ, _+_, _≤_, _<_};
 ghost use mathlib.Core.Path.{_≡_};
-ghost use lib.IntN.{pos};
 ghost use lib.ListN.{length, getD};
-ghost use Rattle.units.specs.Limits.{coresLimit, tasksLimit, periodLimit};
+ghost use Rattle.units.specs.Limits.{coresLimit, periodLimit};
 ghost use Rattle.lists.specs.Lists.{most};
 ghost use Rattle.planning.specs.Kept.{PlanKept};
 ghost use Rattle.lateness.specs.Lateness.{reaches as reachesOf, fixedLate, latesOf};
-ghost use Rattle.lateness.specs.Cores.{MoversOf, pushBy, reachBy, pairLate, lateAt};
-ghost use Rattle.lateness.specs.Small.{Small, SmallPair, Known, reachLimit, lateLimit};
+ghost use Rattle.lateness.specs.Inner.{MoversOf, pushBy, reachBy, pairLate, lateAt, EachLate, MoverInRange, PairInRange, BoundsReady, reachLimit, lateLimit};
 
 // What stands at a core, 0 where there is no such core.
 fn at(numbers: &[u64; CORES], p: usize) -> u64
@@ -30,7 +29,7 @@ fn at(numbers: &[u64; CORES], p: usize) -> u64
 
 // s × (D + 2T) of a mover, from the reaches by first core.
 fn push(reaches: &[u64; CORES], mover: Mover) -> u64
-    requires { ⌜ (length (now reaches) ≡ coresLimit) × Small (now reaches) mover ⌝ }
+    requires { ⌜ (length (now reaches) ≡ coresLimit) × MoverInRange (now reaches) mover ⌝ }
     ensures { λ r. ⌜ r ≡ pushBy (now (reaches .entry)) mover ⌝ }
 {
     let reach = at(reaches, mover.first);
@@ -39,7 +38,7 @@ fn push(reaches: &[u64; CORES], mover: Mover) -> u64
 
 // The reach of a core's lower mover, (s × (D + 2T) + L × (2C' + C)) / (L − s) rounded up, with the upper mover's s, D, T and C'.
 fn reach_on(common: u32, reaches: &[u64; CORES], upper: Mover, lower: Mover) -> u64
-    requires { ⌜ (length (now reaches) ≡ coresLimit) × SmallPair common (now reaches) upper lower ⌝ }
+    requires { ⌜ (length (now reaches) ≡ coresLimit) × PairInRange common (now reaches) upper lower ⌝ }
     ensures { λ r. ⌜ r ≡ reachBy common (now (reaches .entry)) upper lower ⌝ }
 {
     let l = common as u64;
@@ -49,7 +48,7 @@ fn reach_on(common: u32, reaches: &[u64; CORES], upper: Mover, lower: Mover) -> 
 
 // The bound of a core's fixed tasks.
 fn fixed_on(common: u32, reaches: &[u64; CORES], upper: Mover, lower: Mover) -> u64
-    requires { ⌜ (length (now reaches) ≡ coresLimit) × SmallPair common (now reaches) upper lower ⌝ }
+    requires { ⌜ (length (now reaches) ≡ coresLimit) × PairInRange common (now reaches) upper lower ⌝ }
     ensures { λ r. ⌜ r ≡ pairLate common (now (reaches .entry)) upper lower ⌝ }
 {
     let l = common as u64;
@@ -93,34 +92,42 @@ fn fixed_of(plan: Plan, movers: Movers, reaches: &[u64; CORES]) -> [u64; CORES]
     bounds
 }
 
-// A task's bound by its first core and its gap.
-fn late_at(first: usize, gap: u64, reaches: &[u64; CORES], fixed: &[u64; CORES]) -> i64
+// A task's bound: a mover's reach less its period, or the bound of its core's fixed tasks.
+fn late_at(
+    moves: bool,
+    period: u64,
+    first: usize,
+    reaches: &[u64; CORES],
+    fixed: &[u64; CORES],
+) -> i64
     requires { ⌜ (length (now reaches) ≡ coresLimit) × (length (now fixed) ≡ coresLimit) ⌝ }
-    requires { ⌜ (gap ≤ periodLimit + 1) × (getD (now reaches) first 0 ≤ lateLimit) × (getD (now fixed) first 0 ≤ lateLimit) ⌝ }
-    ensures { λ r. ⌜ r ≡ lateAt (now (reaches .entry)) (now (fixed .entry)) first gap ⌝ }
+    requires { ⌜ (period ≤ periodLimit) × (getD (now reaches) first 0 ≤ lateLimit) × (getD (now fixed) first 0 ≤ lateLimit) ⌝ }
+    ensures { λ r. ⌜ r ≡ lateAt (now (reaches .entry)) (now (fixed .entry)) moves period first ⌝ }
 {
-    if 0 < gap {
-        return at(reaches, first) as i64 - (gap - 1) as i64;
+    if moves {
+        return at(reaches, first) as i64 - period as i64;
     }
     at(fixed, first) as i64
 }
 
-// The bounds of tasks by their first cores and gaps.
+// The bounds of tasks: whether each moves, its period and its first core.
 fn lates_of(
+    moving: &[bool; TASKS],
+    periods: &[u64; TASKS],
     firsts: &[usize; TASKS],
-    gaps: &[u64; TASKS],
     reaches: &[u64; CORES],
     fixed: &[u64; CORES],
 ) -> [i64; TASKS]
-    requires { ⌜ Known (now firsts) (now gaps) (now reaches) (now fixed) ⌝ }
-    ensures { λ r. ⌜ ((i : ℕ) → i < tasksLimit → getD r i (pos 0) ≡ lateAt (now (reaches .entry)) (now (fixed .entry)) (getD (now (firsts .entry)) i 0) (getD (now (gaps .entry)) i 0)) ⌝ }
+    requires { ⌜ BoundsReady (now moving) (now periods) (now firsts) (now reaches) (now fixed) ⌝ }
+    ensures { λ r. ⌜ EachLate (now (reaches .entry)) (now (fixed .entry)) (now (moving .entry)) (now (periods .entry)) (now (firsts .entry)) r ⌝ }
 {
     let mut lates = [0i64; TASKS];
     let mut i: usize = 0;
     while i < TASKS {
+        let moves = moving[i];
+        let period = periods[i];
         let first = firsts[i];
-        let gap = gaps[i];
-        let late = late_at(first, gap, reaches, fixed);
+        let late = late_at(moves, period, first, reaches, fixed);
         lates[i] = late;
         i += 1;
     }
@@ -134,24 +141,25 @@ pub fn bounds_of(plan: Plan) -> [i64; TASKS]
 {
     let mut upper = [Mover::NONE; CORES];
     let mut lower = [Mover::NONE; CORES];
+    let mut moving = [false; TASKS];
+    let mut periods = [0u64; TASKS];
     let mut firsts = [0usize; TASKS];
-    let mut gaps = [0u64; TASKS];
     let mut i: usize = TASKS;
     while 0 < i {
         i -= 1;
         let line = plan.lines[i];
         let shares = line.shares;
+        let moves = moves_by(parts_of(shares));
         let first = first_core(shares);
+        moving[i] = moves;
+        periods[i] = line.period.0;
         firsts[i] = first;
-        if 1 < parts_of(shares) {
-            gaps[i] = line.period.0 + 1;
+        if moves {
             let s = shares[first];
             let mover = mover_on(s, line, first);
             lower[first] = mover;
             let above = with_line(upper, line, first);
             upper = above;
-        } else {
-            gaps[i] = 0;
         }
     }
     let movers = Movers {
@@ -160,5 +168,5 @@ pub fn bounds_of(plan: Plan) -> [i64; TASKS]
     };
     let reaches = reaches_of(plan, movers);
     let fixed = fixed_of(plan, movers, &reaches);
-    lates_of(&firsts, &gaps, &reaches, &fixed)
+    lates_of(&moving, &periods, &firsts, &reaches, &fixed)
 }

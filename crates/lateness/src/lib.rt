@@ -1,3 +1,3 @@
 // Lateness bounds of a plan, whoever drew it.
 pub mod bounds;
-pub mod movers;
+mod movers;

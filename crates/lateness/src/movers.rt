@@ -1,4 +1,6 @@
 // The movers of each core.
+use assignment::standing::Standing;
+use assignment::standing::stands;
 use planning::Line;
 use units::limits::CORES;
 use units::share::Share;
@@ -8,18 +10,18 @@ ghost use Prim.Native.Nat.{_<_};
 ghost use Rattle.lists.specs.Lists.{parts};
 ghost use Rattle.assignment.specs.Movers.{firstCore, upper};
 ghost use Rattle.planning.specs.Plan.{rowOf};
-ghost use Rattle.lateness.specs.Cores.{mover, InFront};
+ghost use Rattle.lateness.specs.Inner.{mover, InFront};
 
 // A mover on a core: its share there, its cost, its period and its first core.
-pub struct Mover {
-    pub share: Share,
-    pub cost: Ticks,
-    pub period: Ticks,
-    pub first: usize,
+pub(crate) struct Mover {
+    pub(crate) share: Share,
+    pub(crate) cost: Ticks,
+    pub(crate) period: Ticks,
+    pub(crate) first: usize,
 }
 
 impl Mover {
-    pub const NONE: Mover = Mover {
+    pub(crate) const NONE: Mover = Mover {
         share: Share::EMPTY,
         cost: Ticks(0),
         period: Ticks(0),
@@ -28,13 +30,13 @@ impl Mover {
 }
 
 // The upper and the lower mover of each core. Their numbers alone are kept: whole lines would be copied for each mover.
-pub struct Movers {
-    pub upper: [Mover; CORES],
-    pub lower: [Mover; CORES],
+pub(crate) struct Movers {
+    pub(crate) upper: [Mover; CORES],
+    pub(crate) lower: [Mover; CORES],
 }
 
 // A line with a share on a core as a mover there.
-pub fn mover_on(share: Share, line: Line, first: usize) -> Mover
+pub(crate) fn mover_on(share: Share, line: Line, first: usize) -> Mover
     ensures { λ r. ⌜ r ≡ mover share line first ⌝ }
 {
     let cost = line.cost;
@@ -48,7 +50,7 @@ pub fn mover_on(share: Share, line: Line, first: usize) -> Mover
 }
 
 // The upper movers with one line more in front, which moves.
-pub fn with_line(above: [Mover; CORES], line: Line, first: usize) -> [Mover; CORES]
+pub(crate) fn with_line(above: [Mover; CORES], line: Line, first: usize) -> [Mover; CORES]
     requires { ⌜ (1 < parts (rowOf line)) × (first ≡ firstCore (rowOf line)) ⌝ }
     ensures { λ r. ⌜ InFront (λ p. upper p (rowOf line)) line above r ⌝ }
 {
@@ -57,8 +59,8 @@ pub fn with_line(above: [Mover; CORES], line: Line, first: usize) -> [Mover; COR
     let mut p: usize = 0;
     while p < CORES {
         let s = shares[p];
-        let is_upper = (0 < s.0) & !(first == p);
-        if is_upper {
+        let standing = stands(true, s, first, p);
+        if let Standing::Upper = standing {
             let mover = mover_on(s, line, first);
             movers[p] = mover;
         }

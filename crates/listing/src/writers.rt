@@ -1,5 +1,6 @@
 // Writers of the listing's pieces. Each stores as much as fits and answers the index after its text.
 use assignment::rows::parts_of;
+use assignment::standing::moves_by;
 use planning::Line;
 use planning::Plan;
 use units::limits::CORES;
@@ -60,7 +61,7 @@ fn put_row(buf: &mut [u8], at: usize, shares: [Share; CORES]) -> usize
     ensures { λ r. ⌜ r ≤ at + 806 ⌝ }
 {
     let parts = parts_of(shares);
-    if 1 < parts {
+    if moves_by(parts) {
         let next = put_text(buf, at, b" moves");
         put_shares(buf, next, shares, parts)
     } else {
@@ -128,7 +129,7 @@ fn put_tasks(
 }
 
 // The whole listing, with the bounds of its tasks.
-pub fn put_plan(buf: &mut [u8], plan: Plan, lates: [i64; TASKS]) -> usize
+pub(crate) fn put_plan(buf: &mut [u8], plan: Plan, lates: [i64; TASKS]) -> usize
     requires { ⌜ (plan .count ≤ tasksLimit) × (lates ≡ latesOf plan) ⌝ }
     ensures { λ r. ⌜ Wrote (now (buf .entry)) 0 (listingText plan) (now (buf .exit)) r ⌝ }
     ensures { λ r. ⌜ r ≤ 100000 ⌝ }

@@ -2,7 +2,7 @@
 use Prim.Native.Nat.{ℕ, zero, suc, _+_, _<_}
 use mathlib.Core.Path.{_≡_, refl, sym, ap, subst}
 use mathlib.Core.Logic.{⊎-elim}
-use mathlib.Core.Bool.{Bool, true, false, _&&_}
+use mathlib.Core.Bool.{Bool, true, false, _&&_, and-false}
 use native.Mathlib.Nat.{eq-or-lt-of-le, le-of-suc-le-suc, not-suc-le-zero}
 use native.Mathlib.Numerals.{add-one}
 use native.Mathlib.Omega.{arith}
@@ -19,21 +19,14 @@ pub all-more : (i : ℕ) (f : ℕ → Bool) → allBelow i f ≡ true → f i �
 unfolding allBelow
 all-more i f all here = rw add-one (and-true (f i) (allBelow i f) here all)
 
-and-fails-left : (a b : Bool) → a ≡ false → (a && b) ≡ false
-and-fails-left a b p = rw p
-
-and-fails-right : (a b : Bool) → b ≡ false → (a && b) ≡ false
-and-fails-right true b p = p
-and-fails-right false b p = refl
-
 -- one that fails decides
 pub all-fails : (n i : ℕ) (f : ℕ → Bool) → i < n → f i ≡ false → allBelow n f ≡ false
 unfolding allBelow
 all-fails zero i f l e = absurd (not-suc-le-zero l)
 all-fails (suc n) i f l e =
     ⊎-elim
-    (λ q. and-fails-left (f n) (allBelow n f) (subst (λ (k : ℕ). f k ≡ false) q e))
-    (λ lt. and-fails-right (f n) (allBelow n f) (all-fails n i f lt e))
+    (λ q. rw (subst (λ (k : ℕ). f k ≡ false) q e))
+    (λ lt. rw (all-fails n i f lt e) (and-false (f n)))
     (eq-or-lt-of-le (le-of-suc-le-suc l))
 
 -- each holds

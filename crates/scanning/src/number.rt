@@ -47,7 +47,7 @@ fn digits(text: &[u8], from: usize, first: u64, bound: u64) -> Number
 }
 
 // The number at a place of the text, below a bound.
-pub fn read_number(text: &[u8], at: usize, bound: u64) -> Number
+pub(crate) fn read_number(text: &[u8], at: usize, bound: u64) -> Number
     requires { ⌜ Bound bound ⌝ }
     ensures { λ r. ⌜ r ≡ numberAt bound (now (text .entry)) at ⌝ }
 {

@@ -6,7 +6,6 @@ pub mod PlannedLines
 pub mod Keeps
 pub mod Taken
 pub mod PlannedSound
-pub mod Put
 pub mod Added
 pub mod Counted
 pub mod TallyWide

@@ -1,7 +1,7 @@
 -- The tasks of a plan tested from the last to the first.
 use Prim.Native.Nat.{ℕ, _+_, _*_, _/_, _%_, _≤_, _<_, _∣_}
 use mathlib.Core.Path.{_≡_, refl, sym, ap, _∙_}
-use mathlib.Core.Bool.{Bool, true, false, _&&_}
+use mathlib.Core.Bool.{Bool, true, false, _&&_, and-false}
 use mathlib.Core.List.{List, [], _∷_, map}
 use native.Mathlib.Omega.{arith}
 use native.Mathlib.Numerals.{add-one}
@@ -23,7 +23,7 @@ use Rattle.planning.specs.Plan.{noLine}
 use Rattle.soundness.specs.Rules.{numbersIn, commonIs, lineEmpty}
 use Rattle.lists.specs.Below.{allBelow}
 use Rattle.soundness.specs.Plan.{lineSound, lineOk}
-use Rattle.soundness.specs.Tests.{divisorWith}
+use Rattle.soundness.specs.Inner.{divisorWith}
 use Rattle.lists.proofs.Below.{all-suc}
 
 -- cores, tasks and the common period in their ranges, and a line for each of sixty-four tasks
@@ -128,10 +128,6 @@ module _ (pl : Plan) (n : Numbers pl) where
       by-cases (commonIs pl)
       (λ t. absurd (omega (arith, n .common-some, parted g (pl .common) (periodAt pl i) (divides t i h) e)))
       (λ f. rw f (and-false (allBelow tasksLimit (lineOk pl))))
-    where
-      and-false : (a : Bool) → (a && false) ≡ false
-      and-false true = refl
-      and-false false = refl
 
   module _ (g i : ℕ) (k : Checked pl g (i + 1)) where
     breaks : lineOk pl i ≡ false → (allBelow tasksLimit (lineOk pl) && commonIs pl) ≡ false

@@ -1,7 +1,7 @@
 -- The rules of a plan together: its numbers, its tasks, its cores.
 use Prim.Native.Nat.{ℕ, _≤_, _<_}
-use mathlib.Core.Path.{_≡_, refl, sym, ap₂, _∙_}
-use mathlib.Core.Bool.{Bool, true, false, _&&_}
+use mathlib.Core.Path.{_≡_, sym, ap, ap₂, _∙_}
+use mathlib.Core.Bool.{Bool, true, false, _&&_, and-false, and-assoc}
 use mathlib.Core.List.{List}
 use native.Mathlib.Omega.{arith}
 use lib.Dec.{ltb}
@@ -15,8 +15,7 @@ use Rattle.soundness.specs.declared.tally.Tally.{Tally}
 use Rattle.soundness.specs.Rules.{numbersIn, commonIs}
 use Rattle.lists.specs.Below.{allBelow}
 use Rattle.soundness.specs.Plan.{lineSound, lineOk, coreSound, planSound}
-use Rattle.soundness.specs.Tally.{noTally, tallyOf, WeightsTested}
-use Rattle.soundness.specs.Tests.{tallySound}
+use Rattle.soundness.specs.Inner.{noTally, tallyOf, WeightsTested, tallySound}
 use Rattle.lists.proofs.Below.{all-at, all-same}
 use Rattle.soundness.proofs.Ranges.{sound-sum, sound-small, Zero, empty-zero}
 use Rattle.soundness.proofs.Tasks.{Numbers, task-ok, past-ok}
@@ -39,15 +38,6 @@ module _ (pl : Plan) (n : Numbers pl) (e : allBelow tasksLimit (lineOk pl) ≡ t
       (sound-sum (pl .common) (getD (pl .lines) i noLine) s, omega (arith, n .common-small, sound-small (pl .common) (getD (pl .lines) i noLine) s)))
       (λ t. let z = past-zero i (ltb-false i (pl .count) t) l in (z .shares ∙ sym (z .weight), omega (arith, z .weight)))
 
--- three groups of rules in a row: numbers n, lines a and common period b of the tasks, cores d
-grouped : (n a b d : Bool) → (n && a && b && d) ≡ (n && (a && b) && d)
-grouped true a b d = refl
-grouped false a b d = refl
-
-fails : (n x d : Bool) → x ≡ false → (n && x && d) ≡ false
-fails true x d e = rw e
-fails false x d e = refl
-
 -- the numbers break a rule
 pub numbers-break : (pl : Plan) → numbersIn pl ≡ false → planSound pl ≡ false
 unfolding planSound
@@ -60,13 +50,14 @@ module _ (pl : Plan) where
   abbrev cores : Bool
   cores = allBelow coresLimit (coreSound pl)
 
+  -- in three groups: numbers, tasks, cores
   groups : planSound pl ≡ (numbersIn pl && tasks && cores)
   unfolding planSound
-  groups = grouped (numbersIn pl) (allBelow tasksLimit (lineOk pl)) (commonIs pl) cores
+  groups = ap (λ (b : Bool). b && cores) (and-assoc (numbersIn pl) (allBelow tasksLimit (lineOk pl)) (commonIs pl))
 
   -- the tasks do
   pub tasks-break : (allBelow tasksLimit (lineOk pl) && commonIs pl) ≡ false → planSound pl ≡ false
-  tasks-break e = groups ∙ fails (numbersIn pl) tasks cores e
+  tasks-break e = groups ∙ rw (e, and-false (numbersIn pl))
 
   -- neither does: the cores decide
   pub cores-decide : (ts : List Tally) → numbersIn pl ≡ true → (allBelow tasksLimit (lineOk pl) && commonIs pl) ≡ true

@@ -1,4 +1,3 @@
 pub mod Rules
 pub mod Plan
-pub mod Tests
-pub mod Tally
+pub mod Inner

@@ -1,45 +1,45 @@
 // The rules for one core, by its tally.
 use crate::tally::Tally;
 use units::limits::CORES;
+use units::share::Share;
 ghost use mathlib.Core.Path.{_≡_};
 ghost use mathlib.Core.Bool.{_&&_, _||_, not};
 ghost use lib.Dec.{ltb, leb, eqb};
 ghost use lib.ListN.{getD};
 ghost use Rattle.units.specs.Limits.{coresLimit};
 ghost use Rattle.lists.specs.Below.{allBelow};
-ghost use Rattle.soundness.specs.Tally.{noTally};
-ghost use Rattle.soundness.specs.Tests.{tallySound};
+ghost use Rattle.soundness.specs.Inner.{noTally, tallySound};
 
 // The load of core p is at most L, and 0 if it is not among the M cores.
-pub fn core_within(load: u32, p: usize, cores: usize, common: u32) -> bool
-    ensures { λ r. ⌜ r ≡ (leb load common && (ltb p cores || eqb load 0)) ⌝ }
+fn core_within(load: Share, p: usize, cores: usize, common: u32) -> bool
+    ensures { λ r. ⌜ r ≡ (leb (load .0) common && (ltb p cores || eqb (load .0) 0)) ⌝ }
 {
-    (load <= common) & ((p < cores) | (load == 0))
+    (load.0 <= common) & ((p < cores) | (load.0 == 0))
 }
 
 // No more than two movers.
-pub fn few_movers(movers: u32) -> bool
+fn few_movers(movers: u32) -> bool
     ensures { λ r. ⌜ r ≡ leb movers 2 ⌝ }
 {
     movers <= 2
 }
 
 // Of two movers it is the first core of exactly one.
-pub fn one_first(movers: u32, firsts: u32) -> bool
+fn one_first(movers: u32, firsts: u32) -> bool
     ensures { λ r. ⌜ r ≡ (not (eqb movers 2) || eqb firsts 1) ⌝ }
 {
     !(movers == 2) | (firsts == 1)
 }
 
 // The heaviest fixed task weighs at least as much as the heaviest mover.
-pub fn guarded(mover: u32, fixed: u32) -> bool
-    ensures { λ r. ⌜ r ≡ leb mover fixed ⌝ }
+fn guarded(mover: Share, fixed: Share) -> bool
+    ensures { λ r. ⌜ r ≡ leb (mover .0) (fixed .0) ⌝ }
 {
-    mover <= fixed
+    mover.0 <= fixed.0
 }
 
 // All rules for a core.
-pub fn core_sound(tally: Tally, p: usize, cores: usize, common: u32) -> bool
+fn core_sound(tally: Tally, p: usize, cores: usize, common: u32) -> bool
     ensures { λ r. ⌜ r ≡ tallySound cores common p tally ⌝ }
 {
     core_within(tally.load, p, cores, common)
@@ -49,7 +49,7 @@ pub fn core_sound(tally: Tally, p: usize, cores: usize, common: u32) -> bool
 }
 
 // All rules for all cores.
-pub fn cores_sound(tallies: [Tally; CORES], cores: usize, common: u32) -> bool
+pub(crate) fn cores_sound(tallies: [Tally; CORES], cores: usize, common: u32) -> bool
     ensures { λ r. ⌜ r ≡ allBelow coresLimit (λ p. tallySound cores common p (getD tallies p noTally)) ⌝ }
 {
     let mut sound = true;

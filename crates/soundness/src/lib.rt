@@ -1,5 +1,5 @@
 // Soundness of a plan: every rule, for any numbers whatever.
-pub mod cores;
-pub mod lines;
+mod cores;
+mod lines;
 pub mod plan;
-pub mod tally;
+mod tally;

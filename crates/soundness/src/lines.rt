@@ -8,14 +8,14 @@ ghost use Rattle.soundness.specs.Rules.{lineIn, weightIs, sharesSum, lin
 ghost use Rattle.soundness.specs.Plan.{lineSound};
 
 // Cost and period are in their ranges.
-pub fn line_in(line: Line) -> bool
+fn line_in(line: Line) -> bool
     ensures { λ r. ⌜ r ≡ lineIn line ⌝ }
 {
     (1 <= line.cost.0) & (line.cost.0 <= line.period.0) & (line.period.0 <= PERIOD as u64)
 }
 
 // The weight is C × L / T: T goes into C × L as often, and once more would be too much.
-pub fn weight_is(common: u32, line: Line) -> bool
+fn weight_is(common: u32, line: Line) -> bool
     requires { ⌜ lineIn line ≡ true ⌝ }
     ensures { λ r. ⌜ r ≡ weightIs common line ⌝ }
 {
@@ -25,7 +25,7 @@ pub fn weight_is(common: u32, line: Line) -> bool
 }
 
 // The shares sum to the weight.
-pub fn shares_sum(line: Line) -> bool
+fn shares_sum(line: Line) -> bool
     ensures { λ r. ⌜ r ≡ sharesSum line ⌝ }
 {
     let shares = line.shares;
@@ -33,7 +33,7 @@ pub fn shares_sum(line: Line) -> bool
 }
 
 // All rules for a task in use.
-pub fn line_sound(common: u32, line: Line) -> bool
+pub(crate) fn line_sound(common: u32, line: Line) -> bool
     ensures { λ r. ⌜ r ≡ lineSound common line ⌝ }
 {
     if !line_in(line) {
@@ -43,7 +43,7 @@ pub fn line_sound(common: u32, line: Line) -> bool
 }
 
 // The rule past the last task: all numbers are 0.
-pub fn line_empty(line: Line) -> bool
+pub(crate) fn line_empty(line: Line) -> bool
     ensures { λ r. ⌜ r ≡ lineEmpty line ⌝ }
 {
     let shares = line.shares;

@@ -15,10 +15,10 @@ ghost use Rattle.units.specs.Limits.{tasksLimit};
 ghost use Rattle.soundness.specs.Rules.{numbersIn, commonIs};
 ghost use Rattle.lists.specs.Below.{allBelow};
 ghost use Rattle.soundness.specs.Plan.{lineOk, planSound};
-ghost use Rattle.soundness.specs.Tests.{divisorWith};
+ghost use Rattle.soundness.specs.Inner.{divisorWith};
 
 // Cores, tasks and the common period are in their ranges.
-pub fn numbers_in(plan: Plan) -> bool
+fn numbers_in(plan: Plan) -> bool
     ensures { λ r. ⌜ r ≡ numbersIn plan ⌝ }
 {
     (1 <= plan.cores)
@@ -44,7 +44,7 @@ fn divisor_with(divisor: u32, common: u32, period: u32) -> u32
 }
 
 // The rules for all tasks.
-pub fn tasks_sound(plan: Plan) -> bool
+fn tasks_sound(plan: Plan) -> bool
     requires { ⌜ numbersIn plan ≡ true ⌝ }
     ensures { λ r. ⌜ r ≡ (allBelow tasksLimit (lineOk plan) && commonIs plan) ⌝ }
 {

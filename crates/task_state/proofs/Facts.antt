@@ -12,7 +12,7 @@ use Rattle.lists.proofs.Tests.{by-cases, and-left, and-right}
 use Rattle.lists.proofs.Below.{all-at, all-from}
 use Rattle.planning.specs.declared.Line.{Line}
 use Rattle.planning.specs.Plan.{rowOf}
-use Rattle.turn.specs.Turn.{Turnable}
+use Rattle.turn.specs.Inner.{Turnable}
 use Rattle.task_state.specs.declared.State.{State}
 use Rattle.task_state.specs.State.{runAt}
 use Rattle.task_state.specs.Sound.{runEmpty, runRule, runsSound, turnSound, lastSound, stateSound}

@@ -12,7 +12,7 @@ use Rattle.planning.specs.declared.Line.{Line}
 use Rattle.planning.specs.Plan.{rowOf}
 use Rattle.task_state.specs.declared.State.{State}
 use Rattle.task_state.specs.Tests.{early, releaseTests, finishTests}
-use Rattle.task_state.specs.Runs.{Releasable}
+use Rattle.task_state.specs.Inner.{Releasable}
 use Rattle.task_state.proofs.Facts.{Facts, turnable}
 
 module _ (ln : Line) (st : State) (t : ℕ) (e : releaseTests ln st t ≡ 0) where

@@ -1,7 +1,7 @@
 -- The rules as the code tests them: a run's by its task's shares and the latest deadline, a state's by the sum of its counts first.
 use Prim.Native.Nat.{ℕ, _+_, _-_, _≤_, _<_}
-use mathlib.Core.Path.{_≡_, refl, sym, _∙_}
-use mathlib.Core.Bool.{Bool, true, false, cond, not, _&&_}
+use mathlib.Core.Path.{_≡_, sym, _∙_}
+use mathlib.Core.Bool.{Bool, true, false, cond, not, _&&_, and-false, and-self, and-comm, and-assoc}
 use mathlib.Core.List.{List}
 use borrow.Author.Tests.{ltb-true, leb-true, eqb-true, eqb-false, ne-eqb, lt-ltb, le-ltb}
 use lib.Dec.{ltb, leb, eqb}
@@ -48,21 +48,8 @@ module _ (ln : Line) (st : State) (k : ℕ) where
   pub past : st .live ≤ k → runRule ln st k ≡ runEmpty (runAt st k)
   past h = rw (le-ltb k (st .live) h)
 
-and-same : (a : Bool) → (a && a) ≡ a
-and-same true = refl
-and-same false = refl
-
-and-yes : (a : Bool) → (a && true) ≡ a
-and-yes true = refl
-and-yes false = refl
-
-and-no : (a : Bool) → (a && false) ≡ false
-and-no true = refl
-and-no false = refl
-
 last-first : (a b c : Bool) → (a && b && c) ≡ (c && a && b)
-last-first a b true = and-yes (a && b)
-last-first a b false = and-no (a && b)
+last-first a b c = and-comm (a && b) c ∙ sym (and-assoc c a b)
 
 -- of two numbers that differ one is not 0
 not-both : (m n : ℕ) → eqb m n ≡ false → (eqb m 0 && eqb n 0) ≡ false
@@ -74,7 +61,7 @@ not-both m n e =
 module _ (st : State) where
   -- counts that do not sum to the place, of any task
   pub other-sum : (ln : Line) (used : Bool) → eqb (total (st .counts)) (st .place) ≡ false → cond used (stateSound ln st) (stateEmpty st) ≡ false
-  other-sum ln true e = rw (e, and-no (runsSound ln st))
+  other-sum ln true e = rw (e, and-false (runsSound ln st))
   other-sum ln false e = rw (not-both (total (st .counts)) (st .place) e)
 
   module _ (e : eqb (total (st .counts)) (st .place) ≡ true) where
@@ -84,4 +71,4 @@ module _ (st : State) where
 
     -- and of another
     pub other-left : (eqb (st .place) 0 && eqb (st .last .0) 0 && not (st .had) && eqb (st .live) 0 && runsEmpty st) ≡ stateEmpty st
-    other-left = rw (eqb-true (total (st .counts)) (st .place) e, and-same (eqb (st .place) 0))
+    other-left = rw (eqb-true (total (st .counts)) (st .place) e, and-self (eqb (st .place) 0))

@@ -12,7 +12,7 @@ use Rattle.units.specs.Limits.{coresLimit, clockLimit, runsLimit}
 use Rattle.lists.proofs.Tests.{same-bool}
 use Rattle.planning.specs.declared.Line.{Line}
 use Rattle.planning.specs.Plan.{rowOf}
-use Rattle.turn.specs.Turn.{Turnable}
+use Rattle.turn.specs.Inner.{Turnable}
 use Rattle.turn.proofs.Keeps.{Kept, turn-keeps}
 use Rattle.task_state.specs.declared.State.{State}
 use Rattle.task_state.specs.State.{run, noRun}

@@ -4,3 +4,4 @@ pub mod Runs
 pub mod Key
 pub mod Shape
 pub mod Tests
+pub mod Inner

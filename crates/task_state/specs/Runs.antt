@@ -1,14 +1,13 @@
 -- A task's runs: one more, and the oldest ended.
-use Prim.Native.Nat.{ℕ, _+_, _-_, _≤_, _<_}
+use Prim.Native.Nat.{ℕ, _+_, _-_}
 use mathlib.Core.Bool.{true}
 use mathlib.Core.List.{[], _∷_, _++_}
 use lib.ListN.{drop, set}
-use Rattle.units.specs.Limits.{clockLimit, periodLimit, runsLimit}
 use Rattle.units.specs.Units.{ticks}
 use Rattle.planning.specs.declared.Line.{Line}
 use Rattle.planning.specs.Plan.{rowOf}
 use Rattle.turn.specs.declared.Turn.{Turn}
-use Rattle.turn.specs.Turn.{turnOf, Turnable}
+use Rattle.turn.specs.Turn.{turnOf}
 use Rattle.task_state.specs.declared.State.{State}
 use Rattle.task_state.specs.declared.runs.Taken.{Taken}
 use Rattle.task_state.specs.State.{run, noRun}
@@ -16,13 +15,6 @@ use Rattle.task_state.specs.State.{run, noRun}
 -- the turn of a task's next run
 abbrev pub turnAt : Line → State → Turn
 turnAt ln st = turnOf (ln .weight .0) (st .place) (rowOf ln) (st .counts)
-
--- what a run more is asked of: counts and place that can be stepped, a place for the run, and numbers in their range
-pub record Releasable (ln : Line) (st : State) (t : ℕ) : Type 0 where
-  pub turn : Turnable (ln .weight .0) (st .place) (rowOf ln) (st .counts)
-  pub room : st .live < runsLimit
-  pub time : t ≤ clockLimit
-  pub period : ln .period .0 ≤ periodLimit
 
 -- the task after the release of a run at time t: one run more, counted in the turn cycle
 unfoldable pub withRun : Line → State → ℕ → State

@@ -2,6 +2,9 @@
 use crate::State;
 use assignment::rows::first_core;
 use assignment::rows::parts_of;
+use assignment::standing::Standing;
+use assignment::standing::moves_by;
+use assignment::standing::stands;
 use planning::Line;
 ghost use mathlib.Core.Path.{_≡_};
 ghost use Prim.Native.Nat.{_+_, _<_, _≤_};
@@ -26,14 +29,14 @@ impl State {
         let run = self.runs[0];
         let at = core - 1;
         let s = shares[at];
-        let moves = (1 < parts_of(shares)) & (0 < s.0);
-        let lowest = first_core(shares) == at;
-        if moves & !lowest {
-            return 0;
+        let moves = moves_by(parts_of(shares));
+        let first = first_core(shares);
+        let due = 2 + run.deadline.0;
+        match stands(moves, s, first, at) {
+            Standing::Upper => 0,
+            Standing::Lower => 1,
+            Standing::Fixed => due,
+            Standing::Absent => due,
         }
-        if moves & lowest {
-            return 1;
-        }
-        2 + run.deadline.0
     }
 }

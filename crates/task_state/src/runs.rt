@@ -6,7 +6,8 @@ use turn::turn_of;
 use units::ticks::Ticks;
 ghost use mathlib.Core.Path.{_≡_};
 ghost use Prim.Native.Nat.{_<_};
-ghost use Rattle.task_state.specs.Runs.{Releasable, takenRun, withoutRun};
+ghost use Rattle.task_state.specs.Runs.{takenRun, withoutRun};
+ghost use Rattle.task_state.specs.Inner.{Releasable};
 
 // The task after a release, with the run's core and deadline.
 pub struct Taken {

@@ -13,7 +13,8 @@ use Rattle.units.specs.Limits.{coresLimit}
 use Rattle.lists.specs.Lists.{total}
 use Rattle.lists.proofs.Tests.{by-cases}
 use Rattle.turn.specs.declared.Best.{Best}
-use Rattle.turn.specs.Turn.{isOpen, betterCore, bestFrom, nobody, coreOf, Turnable}
+use Rattle.turn.specs.Turn.{isOpen, betterCore, bestFrom, nobody, coreOf}
+use Rattle.turn.specs.Inner.{Turnable}
 use Rattle.turn.proofs.Search.{search-next, search-end}
 use Rattle.turn.specs.Choice.{Open, Closed, Chosen, due}
 

@@ -11,7 +11,8 @@ use Rattle.lists.specs.Lists.{total}
 use Rattle.lists.proofs.Tests.{by-cases}
 use Rattle.lists.proofs.Lists.{sum-set, zeros-sum}
 use Rattle.turn.specs.declared.Turn.{Turn}
-use Rattle.turn.specs.Turn.{counted, turnOf, Turnable}
+use Rattle.turn.specs.Turn.{counted, turnOf}
+use Rattle.turn.specs.Inner.{Turnable}
 use Rattle.turn.proofs.Choice.{open-share, turn-choice}
 
 -- what the step hands on

@@ -1,13 +1,12 @@
 -- Which core a run goes to, document 01: for a task of weight w with shares ss, after t runs of the cycle with counts ns.
 -- Cores are counted from 1, as in the answer; core 0 is nobody.
-use Prim.Native.Nat.{ℕ, zero, suc, _+_, _*_, _≤_, _<_}
-use mathlib.Core.Path.{_≡_}
+use Prim.Native.Nat.{ℕ, zero, suc, _+_, _*_}
 use mathlib.Core.Bool.{Bool, cond, _&&_, _||_}
 use mathlib.Core.List.{List, [], _∷_}
 use lib.Dec.{ltb, eqb}
 use lib.ListN.{getD, set}
-use Rattle.units.specs.Limits.{coresLimit, commonLimit}
-use Rattle.lists.specs.Lists.{zeros, total}
+use Rattle.units.specs.Limits.{coresLimit}
+use Rattle.lists.specs.Lists.{zeros}
 use Rattle.arith.specs.Ceiling.{ceilDiv}
 use Rattle.turn.specs.declared.Best.{Best}
 use Rattle.turn.specs.declared.Turn.{Turn}
@@ -56,13 +55,6 @@ counted w t ns (suc j) =
 -- the turn step
 unfoldable pub turnOf : ℕ → ℕ → List ℕ → List ℕ → Turn
 turnOf w t ss ns = counted w t ns (coreOf w t ss ns)
-
--- what the turn step is asked of: shares that sum to the weight, counts that sum to a place below it
-pub record Turnable (w t : ℕ) (ss ns : List ℕ) : Type 0 where
-  pub small : w ≤ commonLimit
-  pub below : t < w
-  pub shares : total ss ≡ w
-  pub counts : total ns ≡ t
 
 -- the counts and the place of a fresh plan
 abbrev pub fresh : Turn

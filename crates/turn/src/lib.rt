@@ -7,7 +7,8 @@ ghost use mathlib.Core.Path.{_≡_};
 ghost use Rattle.units.specs.Limits.{coresLimit};
 ghost use Rattle.units.specs.Units.{nums};
 ghost use Rattle.lists.specs.Lists.{total};
-ghost use Rattle.turn.specs.Turn.{betterCore as betterOf, counted as countedOf, turnOf, Turnable};
+ghost use Rattle.turn.specs.Turn.{betterCore as betterOf, counted as countedOf, turnOf};
+ghost use Rattle.turn.specs.Inner.{Turnable};
 
 // The best core so far, from 1 (0: none), and the place by which its next run is due.
 pub struct Best {

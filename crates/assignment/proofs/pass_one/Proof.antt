@@ -6,7 +6,7 @@ use Rattle.units.specs.Limits.{coresLimit, tasksLimit}
 use Rattle.units.specs.Units.{nums}
 use Rattle.units.proofs.Units.{field-long, nums-at, nums-set}
 use Rattle.assignment.specs.Passes.{rowsOf}
-use Rattle.assignment.specs.Assign.{assign, from}
+use Rattle.assignment.specs.Inner.{assign, from}
 use Rattle.assignment.proofs.Steps.{core-low, rows-set, one-next, misfit, one-end}
 use borrow.Author.Needs.{needs}
 use Rattle.assignment.proofs.pass_one.Statement.{statement}

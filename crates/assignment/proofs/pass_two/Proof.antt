@@ -6,7 +6,7 @@ use Rattle.units.specs.Limits.{tasksLimit}
 use Rattle.units.specs.Units.{nums}
 use Rattle.units.proofs.Units.{nums-at}
 use Rattle.assignment.specs.Passes.{rowsOf}
-use Rattle.assignment.specs.Assign.{assignTwo, from}
+use Rattle.assignment.specs.Inner.{assignTwo, from}
 use Rattle.assignment.proofs.Steps.{rows-set, two-next, two-end}
 use borrow.Author.Needs.{needs}
 use Rattle.assignment.proofs.pass_two.Statement.{statement}

@@ -6,21 +6,21 @@ use lib.Dec.{ltb}
 use lib.ListN.{List·getD-eq-default}
 use borrow.Author.Tests.{ltb-true, ltb-false}
 use Rattle.lists.proofs.Tests.{by-cases}
+use Rattle.lists.proofs.Filled.{Stored, stored-none, store-next}
 use Rattle.units.specs.Limits.{coresLimit}
 use Rattle.lateness.specs.Lateness.{fixedLate}
-use Rattle.lateness.proofs.Filled.{Filled, filled-none, filled-set}
-use Rattle.lateness.proofs.Modest.{movers-small, movers-late, fixed-beyond}
+use Rattle.lateness.proofs.Modest.{movers-in-range, movers-late, fixed-beyond}
 use Rattle.lateness.proofs.bounds.fixed_of.Statement.{statement}
 use Rattle.lateness.proofs.bounds.fixed_of.Tie as tie
 
 abbrev Inv-loop : tie.InvT-loop
-Inv-loop plan reaches movers bounds₀ p₀ bounds p = Filled 0 coresLimit (fixedLate (plan .common) reaches (plan .lines)) bounds₀ p bounds
+Inv-loop plan reaches movers bounds₀ p₀ bounds p = Stored 0 coresLimit (fixedLate (plan .common) reaches (plan .lines)) bounds₀ 0 p bounds
 
 abbrev μ-loop : tie.MeasureT-loop
 μ-loop plan reaches movers bounds₀ p₀ bounds p = coresLimit - p
 
 loop-holds : tie.Need-loop-holds Inv-loop μ-loop
-loop-holds c = filled-none _ _ _ _ refl
+loop-holds c = stored-none _ _ _ _ 0 (omega arith) refl
 
 mul-upper : tie.Need-mul-upper Inv-loop μ-loop
 mul-upper c = omega arith
@@ -37,7 +37,7 @@ element-copy-out-lower c = omega arith
 fixed-on-requires : tie.Need-fixed-on-requires Inv-loop μ-loop
 fixed-on-requires c κs =
     let s = c .before .before .before .before in
-    (s .pre .3, movers-small (s .args .plan) (s .pre .0) (c .before .before .before .loop .p) _ (s .pre .1) (s .args .reaches .now) (omega arith) (s .pre .2))
+    (s .pre .3, movers-in-range (s .args .plan) (s .pre .0) (c .before .before .before .loop .p) _ (s .pre .1) (s .args .reaches .now) (omega arith) (s .pre .2))
 
 mul-bounds : tie.Need-mul-bounds Inv-loop μ-loop
 mul-bounds c = omega arith
@@ -56,7 +56,7 @@ loop-again c =
     let s = c .before .before .before .before .before in
     let at = c .before .before .before .before .loop in
     let h : at .p < coresLimit = omega arith in
-    filled-set _ _ _ _ (at .p) (at .bounds) (at .inv) h (c .fixed-on .result)
+    store-next _ _ _ _ 0 (at .p) (at .bounds) (c .fixed-on .result) (at .inv) h
     (c .fixed-on .ensures ∙ movers-late (s .args .plan) (s .pre .0) (at .p) _ (s .pre .1) (s .args .reaches .now) h)
 
 returns : tie.Need-returns Inv-loop μ-loop
@@ -65,7 +65,7 @@ returns c =
     let at = c .before .loop in
     λ q.
     by-cases (ltb q coresLimit)
-    (λ e. at .inv .done q (omega (arith, ltb-true q coresLimit e)))
+    (λ e. at .inv .done q (omega arith) (omega (arith, ltb-true q coresLimit e)))
     (λ e.
     let l : coresLimit ≤ q = ltb-false q coresLimit e in
     List·getD-eq-default (at .bounds) 0 {n = q} (omega (arith, at .inv .long)) ∙ sym (fixed-beyond (s .args .plan) (s .pre .0) q (s .args .reaches .now) l))

@@ -1,11 +1,10 @@
 -- `lateness::bounds::late_at` meets its contract.
-use Prim.Native.Nat.{ℕ, _-_}
+use Prim.Native.Nat.{ℕ}
 use mathlib.Core.Path.{ap, _∙_}
 use native.Mathlib.Omega.{arith}
 use lib.IntN.{pos, subℕ}
 use mir.Syntax.{w64}
 use mir.ValLaws.{toZ-pos}
-use borrow.Author.Tests.{lt-ltb, le-ltb}
 use Rattle.arith.proofs.Signed.{pos-fits, sub-fits, sub-is}
 use borrow.Author.Needs.{needs}
 use Rattle.lateness.proofs.bounds.late_at.Statement.{statement}
@@ -17,21 +16,17 @@ at-requires c κs = search needs
 cast-result : tie.Need-cast-result
 cast-result c = pos-fits (c .at .result) (omega (arith, c .at .ensures))
 
-sub-result : tie.Need-sub-result
-sub-result c = search needs
-
 cast-result-2 : tie.Need-cast-result-2
 cast-result-2 c = search needs
 
-sub-result-2 : tie.Need-sub-result-2
-sub-result-2 c = sub-fits (c .at .result) (c .before .before .args .gap - 1) (omega (arith, c .at .ensures)) (omega arith)
+sub-result : tie.Need-sub-result
+sub-result c = sub-fits (c .at .result) (c .before .before .args .period) (omega (arith, c .at .ensures)) (omega arith)
 
 returns : tie.Need-returns
 returns c =
     let a = c .before .before .args in
-    let t : ℕ = a .gap - 1 in
-    rw (lt-ltb 0 (a .gap) (c .before .if1 .taken))
-    (sub-is (c .at .result) t (omega (arith, c .at .ensures)) (omega arith) ∙ ap (λ (r : ℕ). subℕ r t) (c .at .ensures))
+    rw (c .before .if1 .taken)
+    (sub-is (c .at .result) (a .period) (omega (arith, c .at .ensures)) (omega arith) ∙ ap (λ (r : ℕ). subℕ r (a .period)) (c .at .ensures))
 
 at-requires-2 : tie.Need-at-requires-2
 at-requires-2 c κs = search needs
@@ -42,7 +37,7 @@ cast-result-3 c = pos-fits (c .at2 .result) (omega (arith, c .at2 .ensures))
 returns-2 : tie.Need-returns-2
 returns-2 c =
     let a = c .before .before .args in
-    rw (le-ltb 0 (a .gap) (c .before .if1 .left))
+    rw (c .before .if1 .left)
     (toZ-pos w64 (c .at2 .result) (omega (arith, c .at2 .ensures)) ∙ ap pos (c .at2 .ensures))
 
 pub late-at-spec : {M : Type 1} → statement M
@@ -51,9 +46,8 @@ late-at-spec =
     (tie.spec
     at-requires
     cast-result
-    sub-result
     cast-result-2
-    sub-result-2
+    sub-result
     returns
     at-requires-2
     cast-result-3

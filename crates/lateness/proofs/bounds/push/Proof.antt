@@ -2,7 +2,7 @@
 use Prim.Native.Nat.{ℕ, _+_, _*_}
 use mathlib.Core.Path.{_≡_, ap}
 use native.Mathlib.Omega.{arith}
-use Rattle.lateness.specs.Cores.{pushBy}
+use Rattle.lateness.specs.Inner.{pushBy}
 use Rattle.lateness.proofs.Bounded.{push-le}
 use borrow.Author.Needs.{needs}
 use Rattle.lateness.proofs.bounds.push.Statement.{statement}

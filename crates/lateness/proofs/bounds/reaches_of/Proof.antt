@@ -3,7 +3,7 @@ use native.Mathlib.Omega.{arith}
 use Prim.Native.Nat.{_-_, _≤_, _<_}
 use mathlib.Core.Path.{_≡_, _∙_}
 use Rattle.units.specs.Limits.{coresLimit}
-use Rattle.lateness.proofs.Modest.{movers-small, movers-reach}
+use Rattle.lateness.proofs.Modest.{movers-in-range, movers-reach}
 use Rattle.lateness.proofs.Reached.{reached, reached-long, reached-none, reached-next, reached-all, reached-le}
 use Rattle.lateness.proofs.bounds.reaches_of.Statement.{statement}
 use Rattle.lateness.proofs.bounds.reaches_of.Tie as tie
@@ -34,7 +34,7 @@ reach-on-requires c κs =
     let s = c .before .before .before .before .before in
     let at = c .before .before .before .before .loop in
     let b = reached-le (s .args .plan) (s .pre .0) (at .p) in
-    (reached-long (s .args .plan .common) (s .args .plan .lines) (at .p) (at .inv .0) (at .reaches) (at .inv .1), movers-small (s .args .plan) (s .pre .0) (at .p) _ (s .pre .1) (at .reaches) (omega arith) (rw (at .inv .1) (omega arith)))
+    (reached-long (s .args .plan .common) (s .args .plan .lines) (at .p) (at .inv .0) (at .reaches) (at .inv .1), movers-in-range (s .args .plan) (s .pre .0) (at .p) _ (s .pre .1) (at .reaches) (omega arith) (rw (at .inv .1) (omega arith)))
 
 mul-reaches : tie.Need-mul-reaches Inv-loop μ-loop
 mul-reaches c = omega arith

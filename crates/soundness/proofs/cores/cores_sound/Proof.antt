@@ -6,8 +6,7 @@ use native.Mathlib.Omega.{arith}
 use lib.ListN.{getD}
 use Rattle.units.specs.Limits.{coresLimit}
 use Rattle.lists.specs.Below.{allBelow}
-use Rattle.soundness.specs.Tally.{noTally}
-use Rattle.soundness.specs.Tests.{tallySound}
+use Rattle.soundness.specs.Inner.{noTally, tallySound}
 use Rattle.lists.proofs.Below.{all-suc}
 use Rattle.soundness.proofs.cores.cores_sound.Statement.{statement}
 use Rattle.soundness.proofs.cores.cores_sound.Tie as tie

@@ -3,9 +3,6 @@ use borrow.Author.Needs.{needs}
 use Rattle.soundness.proofs.tally.Tally.with_fixed.Statement.{statement}
 use Rattle.soundness.proofs.tally.Tally.with_fixed.Tie as tie
 
-add-tally : tie.Need-add-tally
-add-tally c = search needs
-
 heavier-requires : tie.Need-heavier-requires
 heavier-requires c κs = search needs
 
@@ -13,4 +10,4 @@ returns : tie.Need-returns
 returns c = rw (c .heavier .ensures)
 
 pub with-fixed-spec : {M : Type 1} → statement M
-with-fixed-spec = tie.close (tie.spec add-tally heavier-requires returns)
+with-fixed-spec = tie.close (tie.spec heavier-requires returns)

@@ -1,3 +1,4 @@
+-- For the contracts of private functions alone: how the code keeps its numbers. It stands for no rule of document 01.
 -- Both passes over tasks that stand in order: each task's weight is looked up, and its row goes to its number.
 use Prim.Native.Nat.{ℕ, _≤_, _<_}
 use mathlib.Core.Path.{_≡_}
