@@ -54,7 +54,7 @@ fn put_choice(buf: &mut [u8], at: usize, choice: Choice) -> usize
 }
 
 // A call's answer, a line.
-pub fn put_answer(buf: &mut [u8], at: usize, answer: Answer) -> usize
+pub(crate) fn put_answer(buf: &mut [u8], at: usize, answer: Answer) -> usize
     requires { ⌜ at + 60 ≤ placeLimit ⌝ }
     ensures { λ r. ⌜ Wrote (now (buf .entry)) at (answerLine answer) (now (buf .exit)) r ⌝ }
     ensures { λ r. ⌜ r ≤ at + 60 ⌝ }

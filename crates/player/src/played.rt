@@ -14,9 +14,9 @@ ghost use Rattle.calls_text.specs.Input.{inputLimit, callIn, callsFrom};
 ghost use Rattle.player.specs.Played.{answersLimit, answersText};
 
 // The record after a call, and the place after its answer.
-pub struct Played {
-    pub next: Record,
-    pub end: usize,
+struct Played {
+    next: Record,
+    end: usize,
 }
 
 // The call of a line, if it has one.
@@ -45,7 +45,7 @@ fn play_line(from: Record, line: CallLine, buf: &mut [u8], at: usize) -> Played
 }
 
 // The calls from a place on.
-pub fn play_calls(text: &[u8], from: usize, first: Record, buf: &mut [u8]) -> usize
+pub(crate) fn play_calls(text: &[u8], from: usize, first: Record, buf: &mut [u8]) -> usize
     requires { ⌜ length (now text) ≤ inputLimit ⌝ }
     ensures { λ r. ⌜ Wrote (now (buf .entry)) 0 (answersText first (callsFrom (length (now (text .entry))) (now (text .entry)) from)) (now (buf .exit)) r ⌝ }
     ensures { λ r. ⌜ r ≤ answersLimit ⌝ }
