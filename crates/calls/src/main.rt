@@ -1,4 +1,5 @@
 // The call player: a table's text and calls on standard input, a line for each call on standard output.
+use calls_text::INPUT;
 use player::play::ANSWERS;
 use player::play::play;
 use streams::Input;
@@ -6,13 +7,14 @@ use streams::read_input;
 use streams::write_output;
 ghost use mathlib.Core.Path.{_≡_};
 ghost use lib.ListN.{length};
+ghost use Rattle.player.specs.Played.{answersLimit};
 
 // One byte more than an input may have, so that a longer one is seen as such.
-const BYTES: usize = 65_537;
+const BYTES: usize = INPUT + 1;
 
 // Zeros for the answers; its contract gives the length alone, so that no proof spells the zeros out.
 fn room() -> [u8; ANSWERS]
-    ensures { λ r. ⌜ 524288 ≡ length r ⌝ }
+    ensures { λ r. ⌜ answersLimit ≡ length r ⌝ }
 {
     [0; ANSWERS]
 }

@@ -8,10 +8,10 @@ use Rattle.writing.specs.Ascii.{ascii, newline}
 use Rattle.scanning.specs.Word.{starts}
 use Rattle.scanning.specs.Lines.{unreadableFrom}
 use Rattle.table_text.specs.Text.{Said, says, unreadable, textOf}
-use Rattle.dispatch.specs.Calls.{Call, release, finish, look}
+use Rattle.dispatch.specs.declared.call.Call.{Call}
 use Rattle.calls_text.specs.Line.{callLine, lineAfter}
 use Rattle.calls_text.specs.declared.line.CallLine.{CallLine}
-use Rattle.calls_text.specs.declared.line.CallLine.the-variants.{Release, Finish, Look, NoCall}
+use Rattle.calls_text.specs.declared.line.CallLine.the-variants.{Called, NoCall}
 
 -- bytes of an input, at most
 abbrev pub inputLimit : ℕ
@@ -58,9 +58,7 @@ inputOf s = cond (ltb inputLimit (length s)) (unplayable 0) (afterTable s (calls
 
 -- this line's call, then the later ones
 unfoldable pub thenCalls : (ℕ → List Call) → CallLine → List Call
-thenCalls later (Release i t next) = release i t ∷ later next
-thenCalls later (Finish i t next) = finish i t ∷ later next
-thenCalls later (Look k t next) = look k t ∷ later next
+thenCalls later (Called c next) = c ∷ later next
 thenCalls later NoCall = []
 
 -- the call of a line, if it has one

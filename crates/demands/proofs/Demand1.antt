@@ -4,9 +4,10 @@ use mathlib.Core.Path.{_≡_}
 use mathlib.Core.List.{List}
 use Rattle.planning.specs.Plan.{planOf}
 use Rattle.dispatch.specs.declared.Record.{Record}
+use Rattle.dispatch.specs.declared.call.Call.{Call}
 use Rattle.dispatch.specs.Record.{recordOf}
 use Rattle.dispatch.specs.Shape.{Good}
-use Rattle.dispatch.specs.Calls.{Call, timeOf, callRefusal, step, after}
+use Rattle.dispatch.specs.Calls.{timeOf, callRefusal, step, after}
 use Rattle.dispatch.proofs.Always.{always-good, refused-same, accepted-clock, clock-rises, plan-same}
 use Rattle.dispatch.proofs.Never.{never-15}
 use Rattle.dispatch.proofs.Started.{started}

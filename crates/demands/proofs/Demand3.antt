@@ -7,7 +7,8 @@ use Rattle.arith.specs.Ceiling.{ceilDiv}
 use Rattle.planning.specs.Plan.{planOf}
 use Rattle.turn.specs.Runs.{coreOfRun}
 use Rattle.dispatch.specs.Record.{recordOf}
-use Rattle.dispatch.specs.Calls.{Call, coresOf, sentTo, inARow}
+use Rattle.dispatch.specs.declared.call.Call.{Call}
+use Rattle.dispatch.specs.Calls.{coresOf, sentTo, inARow}
 use Rattle.dispatch.proofs.Demand3.{core-of-run, of-the-first, of-any-in-a-row}
 use Rattle.planning.specs.Tasks.{taskWeight, taskShares, taskShare}
 use Rattle.dispatch.proofs.Started.{started}
@@ -27,6 +28,8 @@ module _ (m : ℕ) (xs : List ℕ) (ok : planOf m xs .refusal .no ≡ 0) (i : �
 
   -- of any c in a row it is less than two away
   pub runs-in-a-row : (p : ℕ) → 0 < p → (a c : ℕ) → a + c ≤ length (coresOf i (recordOf (planOf m xs .plan)) cs)
-      → (inARow p (coresOf i (recordOf (planOf m xs .plan)) cs) a c * taskWeight (planOf m xs .plan) i < taskShare (planOf m xs .plan) i p * c + 2 * taskWeight (planOf m xs .plan) i)
-      × (taskShare (planOf m xs .plan) i p * c < inARow p (coresOf i (recordOf (planOf m xs .plan)) cs) a c * taskWeight (planOf m xs .plan) i + 2 * taskWeight (planOf m xs .plan) i)
+      → (inARow p (coresOf i (recordOf (planOf m xs .plan)) cs) a c * taskWeight (planOf m xs .plan) i
+      < taskShare (planOf m xs .plan) i p * c + 2 * taskWeight (planOf m xs .plan) i)
+      × (taskShare (planOf m xs .plan) i p * c
+      < inARow p (coresOf i (recordOf (planOf m xs .plan)) cs) a c * taskWeight (planOf m xs .plan) i + 2 * taskWeight (planOf m xs .plan) i)
   runs-in-a-row = of-any-in-a-row (planOf m xs .plan) (started m xs ok) i from to cs

@@ -18,7 +18,7 @@ use Rattle.dispatch.specs.Record.{lineAt, stateAt}
 use Rattle.dispatch.specs.Refusals.{lookRefusal}
 use Rattle.dispatch.specs.Look.{bestOf, choiceFor, choiceOf, lookOf}
 use Rattle.dispatch.specs.Shape.{Good}
-use Rattle.dispatch.specs.Choice.{deadlineAt, keyAt, UpperOn, LowerOn, FixedOn, Least, None, First, Answer, Chosen, as-upper, as-lower, as-fixed}
+use Rattle.dispatch.specs.Choice.{deadlineAt, keyAt, UpperOn, LowerOn, FixedOn, Least, None, First, TaskChoice, Chosen, as-upper, as-lower, as-fixed}
 use Rattle.dispatch.proofs.Held.{held, waits-in}
 use Rattle.dispatch.proofs.Answers.{look-taken}
 use Rattle.soundness.proofs.SoundKept.{sound-kept}
@@ -33,7 +33,11 @@ module _ (r : Record) (k : ℕ) where
   -- a task that is found is no idle core
   busy : (j d : ℕ) → choiceFor r (record { task = suc j; key = d }) ≡ Idle → ⊥
   unfolding choiceFor
-  busy j d = rw (eqb·suc-zero j) (by-cases (eqb d 0) (λ a. rw a (λ e. false≢true (cc))) (λ a. by-cases (eqb d 1) (λ b. rw (a, b) (λ e. false≢true (cc))) (λ b. rw (a, b) (λ e. false≢true (cc)))))
+  busy j d =
+      rw (eqb·suc-zero j)
+      (by-cases (eqb d 0)
+      (λ a. rw a (λ e. false≢true (cc)))
+      (λ a. by-cases (eqb d 1) (λ b. rw (a, b) (λ e. false≢true (cc))) (λ b. rw (a, b) (λ e. false≢true (cc)))))
 
   -- so for each outcome of the search
   idle-if : (task d : ℕ) → Found r k tasksLimit task d → (choiceFor r (record { task = task; key = d }) ≡ Idle) ↔ None r k
@@ -77,7 +81,7 @@ module _ (r : Record) (g : Good r) (k : ℕ) where
       by-fixed i d (fixed-key f e) h = (f, omega arith)
 
   -- its key says what is answered
-  answer-for : (j d : ℕ) → d ≡ keyAt r k j → Keyed (lineAt r j) (stateAt r j) k → Answer r k j (choiceFor r (record { task = suc j; key = d }))
+  answer-for : (j d : ℕ) → d ≡ keyAt r k j → Keyed (lineAt r j) (stateAt r j) k → TaskChoice r k j (choiceFor r (record { task = suc j; key = d }))
   unfolding choiceFor
   answer-for j d q (upper-key u e) =
       let back : suc j - 1 ≡ j = omega arith in

@@ -14,7 +14,8 @@ use Rattle.turn.specs.Runs.{coreOfRun, sent}
 use Rattle.turn.proofs.Fair.{rounded, in-a-row}
 use Rattle.dispatch.specs.Record.{recordOf}
 use Rattle.dispatch.specs.Shape.{Good}
-use Rattle.dispatch.specs.Calls.{Call, coresOf, sentTo, inARow}
+use Rattle.dispatch.specs.declared.call.Call.{Call}
+use Rattle.dispatch.specs.Calls.{coresOf, sentTo, inARow}
 use Rattle.soundness.proofs.Lined.{Lined}
 use Rattle.dispatch.proofs.Records.{task-in, task-lined, task-wide}
 use Rattle.dispatch.proofs.Fresh.{fresh-at}
@@ -50,7 +51,8 @@ module _ (pl : Plan) (g : Good (recordOf pl)) (i : ℕ) (from : 0 < i) (to : i �
     ks = coresOf i (recordOf pl) cs
 
     -- the core of its run number c is a function of its shares and c
-    pub core-of-run : (c : ℕ) → c < length (coresOf i (recordOf pl) cs) → getD (coresOf i (recordOf pl) cs) c 0 ≡ coreOfRun (taskWeight pl i) (taskShares pl i) c
+    pub core-of-run : (c : ℕ) → c < length (coresOf i (recordOf pl) cs)
+        → getD (coresOf i (recordOf pl) cs) c 0 ≡ coreOfRun (taskWeight pl i) (taskShares pl i) c
     core-of-run c h = rw add-zero at (cores-after i (taskLine pl i) cs (recordOf pl) 0 here-first c h)
 
     module _ (p : ℕ) (one : 0 < p) where

@@ -2,11 +2,12 @@
 use Prim.Native.Nat.{ℕ}
 use mathlib.Core.Path.{_≡_, refl}
 use mathlib.Core.Bool.{true}
-use mathlib.Core.List.{[], _∷_}
+use mathlib.Core.List.{List, [], _∷_}
 use lib.Dec.{eqb}
 use lib.ListN.{length, getD}
 use borrow.Author.Tests.{eqb-true}
 use Rattle.units.specs.Limits.{coresLimit, tasksLimit}
+use Rattle.units.specs.Units.{ticks}
 use Rattle.lists.specs.Below.{allBelow}
 use Rattle.lists.proofs.Below.{all-at}
 use Rattle.arith.specs.Divisor.{euclid, gcd, lcm}
@@ -29,7 +30,9 @@ use Rattle.dispatch.specs.Finish.{takeFinish, refuseFinish, finishOf}
 use Rattle.dispatch.specs.Look.{lookOf}
 use Rattle.dispatch.specs.Shape.{Good}
 use Rattle.planning.specs.Shape.{PlanShaped}
-use Rattle.dispatch.specs.Calls.{release, finish, look, coresOf}
+use Rattle.dispatch.specs.declared.call.Call.{Call}
+use Rattle.dispatch.specs.declared.call.Call.the-variants.{Release, Finish, Look}
+use Rattle.dispatch.specs.Calls.{coresOf}
 use Rattle.dispatch.proofs.Fresh.{fresh-good}
 
 -- its plan
@@ -66,6 +69,20 @@ pub good : Good (recordOf plan)
 good = fresh-good plan shaped sound
 
 -- releases of task 5 at 0, 2 (too early), 3, 5 (too early), 9 and 12, among other calls
-pub cores : coresOf 5 (recordOf plan) (release 5 0 ∷ release 5 2 ∷ release 5 3 ∷ finish 5 4 ∷ release 6 5 ∷ release 5 5 ∷ look 2 6 ∷ release 5 9 ∷ look 2 8 ∷ release 5 12 ∷ []) ≡ 2 ∷ 1 ∷ 2 ∷ 3 ∷ []
+abbrev calls : List Call
+calls =
+    Release 5 (ticks 0)
+    ∷ Release 5 (ticks 2)
+    ∷ Release 5 (ticks 3)
+    ∷ Finish 5 (ticks 4)
+    ∷ Release 6 (ticks 5)
+    ∷ Release 5 (ticks 5)
+    ∷ Look 2 (ticks 6)
+    ∷ Release 5 (ticks 9)
+    ∷ Look 2 (ticks 8)
+    ∷ Release 5 (ticks 12)
+    ∷ []
+
+pub cores : coresOf 5 (recordOf plan) calls ≡ 2 ∷ 1 ∷ 2 ∷ 3 ∷ []
 unfolding defs
 cores = refl

@@ -5,6 +5,7 @@ pub mod Looking
 pub mod Stored
 pub mod Records
 pub mod Answers
+pub mod OneCall
 pub mod Keeps
 pub mod Always
 pub mod Never

@@ -8,11 +8,13 @@ use lib.Dec.{ltb, eqb}
 use Rattle.units.specs.Limits.{clockLimit, runsLimit}
 use Rattle.task_state.specs.Tests.{early, releaseTests, finishTests}
 use Rattle.dispatch.specs.declared.Record.{Record}
+use Rattle.dispatch.specs.declared.call.Call.{Call}
+use Rattle.dispatch.specs.declared.call.Call.the-variants.{Release, Finish, Look}
 use Rattle.dispatch.specs.Record.{lineAt, stateAt}
 use Rattle.dispatch.specs.Refusals.{outside, timeTests, taskTests, lookRefusal, releaseRefusal, finishRefusal}
 use Rattle.dispatch.specs.Shape.{Good}
-use Rattle.dispatch.specs.Calls.{Call, release, finish, look, callRefusal, after}
-use Rattle.dispatch.proofs.Answers.{release-answer, finish-answer, look-answer}
+use Rattle.dispatch.specs.Calls.{callRefusal, after}
+use Rattle.dispatch.proofs.OneCall.{release-no, finish-no, look-no}
 use Rattle.dispatch.proofs.Always.{always-good}
 
 -- a refusal is not 15, if neither of two is
@@ -36,21 +38,21 @@ module _ (r : Record) (g : Good r) where
   -- none is given for a good record
   good-15 : (c : Call) → callRefusal r c ≡ 15 → ⊥
   unfolding releaseRefusal finishRefusal lookRefusal
-  good-15 (release i t) e =
+  good-15 (Release i t) e =
       let st = stateAt r (i - 1) in
       let full : ℕ = cond (eqb (st .live) runsLimit) 10 0 in
-      neither (eqb (taskTests r i t) 0) (releaseTests (lineAt r (i - 1)) st t) (taskTests r i t)
-      (neither (early (lineAt r (i - 1)) st t) 9 full (λ e. omega arith) (neither (eqb (st .live) runsLimit) 10 0 (λ e. omega arith) (λ e. omega arith)))
-      (task-15 i t)
-      (sym (release-answer r i t) ∙ e)
-  good-15 (finish i t) e =
+      neither (eqb (taskTests r i (t .0)) 0) (releaseTests (lineAt r (i - 1)) st (t .0)) (taskTests r i (t .0))
+      (neither (early (lineAt r (i - 1)) st (t .0)) 9 full (λ e. omega arith) (neither (eqb (st .live) runsLimit) 10 0 (λ e. omega arith) (λ e. omega arith)))
+      (task-15 i (t .0))
+      (sym (release-no r i t) ∙ e)
+  good-15 (Finish i t) e =
       let st = stateAt r (i - 1) in
-      neither (eqb (taskTests r i t) 0) (finishTests st) (taskTests r i t)
+      neither (eqb (taskTests r i (t .0)) 0) (finishTests st) (taskTests r i (t .0))
       (neither (eqb (st .live) 0) 11 0 (λ e. omega arith) (λ e. omega arith))
-      (task-15 i t)
-      (sym (finish-answer r i t) ∙ e)
-  good-15 (look k t) e =
-      number-15 (r .plan .cores) 13 k t (λ e. omega arith) (rw (g .sound) at (sym (look-answer r k t) ∙ e))
+      (task-15 i (t .0))
+      (sym (finish-no r i t) ∙ e)
+  good-15 (Look k t) e =
+      number-15 (r .plan .cores) 13 k (t .0) (λ e. omega arith) (rw (g .sound) at (sym (look-no r k t) ∙ e))
 
 -- 15 is never given
 pub never-15 : (r : Record) (cs : List Call) (c : Call) → Good r → callRefusal (after r cs) c ≡ 15 → ⊥

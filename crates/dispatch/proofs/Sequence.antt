@@ -10,7 +10,8 @@ use Rattle.planning.specs.declared.Line.{Line}
 use Rattle.planning.specs.Plan.{rowOf}
 use Rattle.turn.specs.Runs.{coreOfRun}
 use Rattle.dispatch.specs.declared.Record.{Record}
-use Rattle.dispatch.specs.Calls.{Call, step, after, coresOf}
+use Rattle.dispatch.specs.declared.call.Call.{Call}
+use Rattle.dispatch.specs.Calls.{step, after, coresOf}
 use Rattle.dispatch.proofs.Turns.{Here, next}
 
 module _ (i : ℕ) (ln : Line) where

@@ -2,14 +2,15 @@
 use Prim.Native.Nat.{ℕ, suc, _-_, _≤_, _<_}
 use mathlib.Core.Path.{_≡_, refl, ap, _∙_}
 use mathlib.Core.Logic.{_⊎_, inl, inr}
-use mathlib.Core.Bool.{and-false}
-use mathlib.Core.List.{[], _∷_}
+use mathlib.Core.Bool.{Bool, true, false, cond}
+use mathlib.Core.List.{List, [], _∷_}
 use native.Mathlib.Decide.{ℕ-discrete}
 use native.Mathlib.Omega.{arith}
 use lib.Dec.{eqb}
 use lib.ListN.{length, getD}
 use lib.Seq.{getD-set-same, getD-set-other}
 use borrow.Author.Tests.{eq-eqb, ne-eqb}
+use Rattle.units.specs.declared.ticks.Ticks.{Ticks}
 use Rattle.planning.specs.declared.Line.{Line}
 use Rattle.planning.specs.declared.Plan.{Plan}
 use Rattle.planning.specs.Plan.{noLine, rowOf}
@@ -19,12 +20,14 @@ use Rattle.task_state.specs.declared.State.{State}
 use Rattle.task_state.specs.State.{freshState, noState}
 use Rattle.task_state.specs.Runs.{turnAt, withRun, takenRun, withoutRun}
 use Rattle.dispatch.specs.declared.Record.{Record}
+use Rattle.dispatch.specs.declared.call.Call.{Call}
+use Rattle.dispatch.specs.declared.call.Call.the-variants.{Release, Finish, Look}
 use Rattle.dispatch.specs.Record.{lineAt, stateAt, moved}
 use Rattle.dispatch.specs.Refusals.{releaseRefusal, finishRefusal, lookRefusal}
 use Rattle.dispatch.specs.Finish.{finishOf}
 use Rattle.dispatch.specs.Look.{lookOf}
 use Rattle.dispatch.specs.Shape.{Good}
-use Rattle.dispatch.specs.Calls.{Call, release, finish, look, step, coreBy}
+use Rattle.dispatch.specs.Calls.{answeredOf, step, coreBy}
 use Rattle.dispatch.proofs.Records.{task-in}
 use Rattle.dispatch.proofs.Passed.{release-passed}
 use Rattle.dispatch.proofs.Answers.{release-answer, release-refused, finish-refused, look-refused, release-taken, finish-taken, look-taken}
@@ -68,6 +71,11 @@ pub record Here (i : ℕ) (ln : Line) (r : Record) (n : ℕ) : Type 0 where
   pub to : i ≤ r .plan .count
   pub line : lineAt r (i - 1) ≡ ln
   pub turns : At ln (stateAt r (i - 1)) n
+
+-- no core is the answer to a refused release, whatever its task
+none-either : (b : Bool) → _≡_ {A = List ℕ} (cond b [] []) []
+none-either true = refl
+none-either false = refl
 
 -- a call answers no core for task i and leaves its turns, or the core of its run number n and is one turn more
 abbrev pub Next : ℕ → Line → Record → ℕ → Call → Type 0
@@ -114,36 +122,33 @@ module _ (i : ℕ) (ln : Line) (r : Record) (n : ℕ) (h : Here i ln r n) where
           (at-finish ln (stateAt r (i - 1)) n (h .turns))
 
   -- a release
-  release-next : (j t : ℕ) → Next i ln r n (release j t)
+  release-next : (j : ℕ) (t : Ticks) → Next i ln r n (Release j t)
   unfolding takenRun
-  release-next j t = go (ℕ-discrete (releaseRefusal r j t) 0) (ℕ-discrete j i)
+  release-next j t = go (ℕ-discrete (releaseRefusal r j (t .0)) 0) (ℕ-discrete j i)
     where
-      go : Dec (releaseRefusal r j t ≡ 0) → Dec (j ≡ i) → Next i ln r n (release j t)
+      go : Dec (releaseRefusal r j (t .0) ≡ 0) → Dec (j ≡ i) → Next i ln r n (Release j t)
       go (no z) d = inl (
-        rw (release-answer r j t, ne-eqb (releaseRefusal r j t) 0 z, and-false (eqb j i)),
-        here-on (release j t) n (rw (step, release-refused r j t refl z) (h .turns)),
+        rw (release-answer r j (t .0), ne-eqb (releaseRefusal r j (t .0)) 0 z) (none-either (eqb j i)),
+        here-on (Release j t) n (rw (step, answeredOf, release-refused r j (t .0) refl z) (h .turns)),
       )
       go (yes e) (no d) = inl (
         rw (ne-eqb j i d),
-        here-on (release j t) n
-            (rw (step, release-taken r j t refl e refl)
-            (other-at (j - 1) t (withRun (lineAt r (j - 1)) (stateAt r (j - 1)) t) (λ q. d (omega (arith, release-passed r j t e .0 .from, h .from))))),
+        here-on (Release j t) n
+            (rw (step, answeredOf, release-taken r j (t .0) refl e refl)
+            (other-at (j - 1) (t .0) (withRun (lineAt r (j - 1)) (stateAt r (j - 1)) (t .0))
+            (λ q. d (omega (arith, release-passed r j (t .0) e .0 .from, h .from))))),
       )
       go (yes e) (yes d) = inr (
-        rw (eq-eqb j i d, release-answer r j t, eq-eqb (releaseRefusal r j t) 0 e, release-taken r j t refl e refl, d, h .line)
+        rw (eq-eqb j i d, release-answer r j (t .0), eq-eqb (releaseRefusal r j (t .0)) 0 e, release-taken r j (t .0) refl e refl, d, h .line)
             (ap (λ (k : ℕ). k ∷ []) (at-core ln (stateAt r (i - 1)) n (h .turns))),
-        here-on (release j t) (suc n)
-            (rw (
-              step,
-              release-taken r j t refl e refl,
-              d,
-              getD-set-same (r .states) (i - 1) (withRun (lineAt r (i - 1)) (stateAt r (i - 1)) t) noState inside,
-              h .line,
-            ) (at-release ln (stateAt r (i - 1)) n (h .turns) t)),
+        here-on (Release j t) (suc n)
+            (let st = withRun (lineAt r (i - 1)) (stateAt r (i - 1)) (t .0) in
+            rw (step, answeredOf, release-taken r j (t .0) refl e refl, d, getD-set-same (r .states) (i - 1) st noState inside, h .line)
+            (at-release ln (stateAt r (i - 1)) n (h .turns) (t .0))),
       )
 
   -- every call
   pub next : (c : Call) → Next i ln r n c
-  next (release j t) = release-next j t
-  next (finish j t) = inl (refl, here-on (finish j t) n (finish-at j t))
-  next (look k t) = inl (refl, here-on (look k t) n (look-at k t))
+  next (Release j t) = release-next j t
+  next (Finish j t) = inl (refl, here-on (Finish j t) n (finish-at j (t .0)))
+  next (Look k t) = inl (refl, here-on (Look k t) n (look-at k (t .0)))

@@ -1,49 +1,79 @@
 -- Any calls on a record, one after another, refused ones included. Tasks and cores are counted from 1, runs from 0.
 use Prim.Native.Nat.{ℕ, _+_}
-use mathlib.Core.Bool.{cond, _&&_}
+use mathlib.Core.Bool.{Bool, false, cond}
 use mathlib.Core.List.{List, [], _∷_, _++_}
 use lib.Dec.{eqb}
 use lib.ListN.{take, drop}
 use Rattle.lists.specs.Lists.{bit}
+use Rattle.units.specs.Refusals.{refusal}
 use Rattle.dispatch.specs.declared.Record.{Record}
+use Rattle.dispatch.specs.declared.call.Call.{Call}
+use Rattle.dispatch.specs.declared.call.Call.the-variants.{Release, Finish, Look}
+use Rattle.dispatch.specs.declared.call.Answer.{Answer}
+use Rattle.dispatch.specs.declared.call.Answer.the-variants.{Refused, Released, Finished, Looked}
+use Rattle.dispatch.specs.declared.call.Answered.{Answered}
 use Rattle.dispatch.specs.Release.{releaseOf}
 use Rattle.dispatch.specs.Finish.{finishOf}
 use Rattle.dispatch.specs.Look.{lookOf}
 
--- a release of a task, a finish of a task, a look at a core, each at a time
-pub data Call : Type 0 where
-  release : ℕ → ℕ → Call
-  finish : ℕ → ℕ → Call
-  look : ℕ → ℕ → Call
+-- the answer of a call that is taken, or its refusal, which names no task
+abbrev pub orRefused : ℕ → Answer → Answer
+orRefused n taken = cond (eqb n 0) taken (Refused (refusal n 0))
+
+-- a call's answer and the record that it hands on
+abbrev pub answeredOf : Record → Call → Answered
+answeredOf r (Release i t) =
+    let a = releaseOf r i (t .0) in
+    record { answer = orRefused (a .refusal) (Released (a .core) (a .deadline)); next = a .next }
+answeredOf r (Finish i t) =
+    let a = finishOf r i (t .0) in
+    record { answer = orRefused (a .refusal) (Finished (a .late)); next = a .next }
+answeredOf r (Look k t) =
+    let a = lookOf r k (t .0) in
+    record { answer = orRefused (a .refusal) (Looked (a .choice)); next = a .next }
 
 -- the call's time
 abbrev pub timeOf : Call → ℕ
-timeOf (release i t) = t
-timeOf (finish i t) = t
-timeOf (look k t) = t
+timeOf (Release i t) = t .0
+timeOf (Finish i t) = t .0
+timeOf (Look k t) = t .0
 
--- the refusal that it answers, 0 if it is accepted
+-- an answer's refusal, 0 if the call is accepted
+abbrev pub refusalIn : Answer → ℕ
+refusalIn (Refused x) = x .no
+refusalIn (Released p d) = 0
+refusalIn (Finished late) = 0
+refusalIn (Looked choice) = 0
+
+-- the refusal that a call answers
 abbrev pub callRefusal : Record → Call → ℕ
-callRefusal r (release i t) = releaseOf r i t .refusal
-callRefusal r (finish i t) = finishOf r i t .refusal
-callRefusal r (look k t) = lookOf r k t .refusal
+callRefusal r c = refusalIn (answeredOf r c .answer)
 
 -- the record that it hands on
 abbrev pub step : Record → Call → Record
-step r (release i t) = releaseOf r i t .next
-step r (finish i t) = finishOf r i t .next
-step r (look k t) = lookOf r k t .next
+step r c = answeredOf r c .next
 
 -- the record after calls
 abbrev pub after : Record → List Call → Record
 after r [] = r
 after r (c ∷ cs) = after (step r c) cs
 
+-- a call is a release of task i
+abbrev pub releases : ℕ → Call → Bool
+releases i (Release j t) = eqb j i
+releases i (Finish j t) = false
+releases i (Look k t) = false
+
+-- the core that an answer tells, if it is that of an accepted release
+abbrev pub coreIn : Answer → List ℕ
+coreIn (Refused x) = []
+coreIn (Released p d) = p ∷ []
+coreIn (Finished late) = []
+coreIn (Looked choice) = []
+
 -- the core that a call answers, if it is an accepted release of task i
 abbrev pub coreBy : ℕ → Record → Call → List ℕ
-coreBy i r (release j t) = cond (eqb j i && eqb (releaseOf r j t .refusal) 0) (releaseOf r j t .core ∷ []) []
-coreBy i r (finish j t) = []
-coreBy i r (look k t) = []
+coreBy i r c = cond (releases i c) (coreIn (answeredOf r c .answer)) []
 
 -- the cores that the accepted releases of task i answer, in order
 abbrev pub coresOf : ℕ → Record → List Call → List ℕ

@@ -58,11 +58,11 @@ abbrev pub None : Record → ℕ → Type 0
 None r k = (i : ℕ) → i < tasksLimit → waits (stateAt r i) k ≡ false
 
 -- the choice of task j: a mover with its deadline, upper or lower there, or a fixed task with its deadline
-pub data Answer (r : Record) (k j : ℕ) : Choice → Type 0 where
-  as-upper : UpperOn r k j → Answer r k j (Mover (suc j) (ticks (deadlineAt r j)) Upper)
-  as-lower : LowerOn r k j → Answer r k j (Mover (suc j) (ticks (deadlineAt r j)) Lower)
-  as-fixed : FixedOn r k j → Answer r k j (Fixed (suc j) (ticks (deadlineAt r j)))
+pub data TaskChoice (r : Record) (k j : ℕ) : Choice → Type 0 where
+  as-upper : UpperOn r k j → TaskChoice r k j (Mover (suc j) (ticks (deadlineAt r j)) Upper)
+  as-lower : LowerOn r k j → TaskChoice r k j (Mover (suc j) (ticks (deadlineAt r j)) Lower)
+  as-fixed : FixedOn r k j → TaskChoice r k j (Fixed (suc j) (ticks (deadlineAt r j)))
 
 -- no task waits there and the core is idle, or the choice is that of the task that goes first there
 abbrev pub Chosen : Record → ℕ → Choice → Type 0
-Chosen r k x = (None r k × (x ≡ Idle)) ⊎ ((j : ℕ) × (j < r .plan .count) × First r k j × Answer r k j x)
+Chosen r k x = (None r k × (x ≡ Idle)) ⊎ ((j : ℕ) × (j < r .plan .count) × First r k j × TaskChoice r k j x)

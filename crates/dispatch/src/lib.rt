@@ -1,4 +1,5 @@
 // The dispatcher: a record that goes in by value and comes back, and the calls on it.
+pub mod call;
 pub mod finish;
 pub mod look;
 pub mod plan;

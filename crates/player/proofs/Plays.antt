@@ -10,59 +10,27 @@ use Rattle.lists.proofs.Tests.{by-cases}
 use Rattle.writing.specs.Wrote.{Wrote}
 use Rattle.writing.proofs.Wrote.{none, then, recast}
 use Rattle.dispatch.specs.declared.Record.{Record}
-use Rattle.dispatch.specs.declared.release.Released.{Released}
-use Rattle.dispatch.specs.declared.finish.Finished.{Finished}
-use Rattle.dispatch.specs.declared.look.Looked.{Looked}
-use Rattle.dispatch.specs.Release.{releaseOf}
-use Rattle.dispatch.specs.Finish.{finishOf}
-use Rattle.dispatch.specs.Look.{lookOf}
-use Rattle.dispatch.specs.Calls.{Call, release, finish, look, step, after}
+use Rattle.dispatch.specs.declared.call.Call.{Call}
+use Rattle.dispatch.specs.declared.call.Answered.{Answered}
+use Rattle.dispatch.specs.Calls.{answeredOf, step, after}
 use Rattle.calls_text.specs.Line.{callLine, lineAfter}
 use Rattle.calls_text.specs.Input.{inputLimit, thenCalls, callIn, callsFrom}
-use Rattle.player.specs.Answers.{releasedText, finishedText, lookedText, answerText}
-use Rattle.player.specs.Played.{answersText}
+use Rattle.player.specs.Answers.{answerLine}
+use Rattle.player.specs.Played.{answersLimit, answersText}
 use Rattle.calls_text.specs.declared.line.CallLine.{CallLine}
-use Rattle.calls_text.specs.declared.line.CallLine.the-variants.{Release, Finish, Look, NoCall}
+use Rattle.calls_text.specs.declared.line.CallLine.the-variants.{Called, NoCall}
 use Rattle.calls_text.proofs.Lines.{Reach, call-reach, from-start, ahead}
-
-module _ (r : Record) (i t : ℕ) where
-  -- a release's answer
-  pub release-text : {a : Released} → a ≡ releaseOf r i t → releasedText (a .refusal) (a .core) (a .deadline .0) ≡ answerText r (release i t)
-  unfolding answerText
-  release-text e = rw e refl
-
-  -- a finish's
-  pub finish-text : {a : Finished} → a ≡ finishOf r i t → finishedText (a .refusal) (a .late) ≡ answerText r (finish i t)
-  unfolding answerText
-  finish-text e = rw e refl
-
-  -- a look's
-  pub look-text : {a : Looked} → a ≡ lookOf r i t → lookedText (a .refusal) (a .choice) ≡ answerText r (look i t)
-  unfolding answerText
-  look-text e = rw e refl
 
 -- what a line's calls leave: the record after them, and their answers
 abbrev Leaves : Record → List Call → List ℕ → ℕ → Record → List ℕ → ℕ → Type 0
 Leaves r cs before at next now end = (next ≡ after r cs) × Wrote before at (answersText r cs) now end
 
--- one call
-one : (r : Record) (c : Call) (cs : List Call) {before now : List ℕ} {at end : ℕ} {next : Record}
-    → cs ≡ c ∷ [] → next ≡ step r c → Wrote before at (answerText r c) now end → Leaves r cs before at next now end
-unfolding answersText
-one r c cs e s w = rw e (s, recast (sym (append-nil (answerText r c))) w)
-
-module _ (r : Record) {line : CallLine} {before now : List ℕ} {at end : ℕ} {next : Record} {i t place : ℕ} where
-  pub line-release : line ≡ Release i t place → next ≡ step r (release i t) → Wrote before at (answerText r (release i t)) now end → Leaves r (callIn line) before at next now end
-  unfolding thenCalls
-  line-release e = one r (release i t) (callIn line) (rw e refl)
-
-  pub line-finish : line ≡ Finish i t place → next ≡ step r (finish i t) → Wrote before at (answerText r (finish i t)) now end → Leaves r (callIn line) before at next now end
-  unfolding thenCalls
-  line-finish e = one r (finish i t) (callIn line) (rw e refl)
-
-  pub line-look : line ≡ Look i t place → next ≡ step r (look i t) → Wrote before at (answerText r (look i t)) now end → Leaves r (callIn line) before at next now end
-  unfolding thenCalls
-  line-look e = one r (look i t) (callIn line) (rw e refl)
+-- a line's call
+pub line-called : (r : Record) {line : CallLine} {before now : List ℕ} {at end place : ℕ} {c : Call} {a : Answered}
+    → line ≡ Called c place → a ≡ answeredOf r c → Wrote before at (answerLine (a .answer)) now end → Leaves r (callIn line) before at (a .next) now end
+unfolding thenCalls answersText
+line-called r {a = a} e s w =
+    rw e (ap (λ (x : Answered). x .next) s, recast (sym (append-nil (answerLine (a .answer))) ∙ ap (λ (x : Answered). answerLine (x .answer) ++ []) s) w)
 
 -- a line without a call leaves all as it was
 pub line-none : (r : Record) {line : CallLine} (now : List ℕ) (at : ℕ) → line ≡ NoCall → Leaves r (callIn line) now at r now at
@@ -70,11 +38,10 @@ unfolding thenCalls answersText
 line-none r now at e = rw e (refl, none now at)
 
 -- a later place gives the same calls, the rest of them
-then-same : (k at : ℕ) (line : CallLine) {f g : ℕ → List Call} → Reach k at line → ((next : ℕ) → at + k ≤ next → f next ≡ g next) → thenCalls f line ≡ thenCalls g line
+then-same : (k at : ℕ) (line : CallLine) {f g : ℕ → List Call} → Reach k at line
+    → ((next : ℕ) → at + k ≤ next → f next ≡ g next) → thenCalls f line ≡ thenCalls g line
 unfolding thenCalls
-then-same k at (Release i t next) h e = ap (λ (cs : List Call). release i t ∷ cs) (e next h)
-then-same k at (Finish i t next) h e = ap (λ (cs : List Call). finish i t ∷ cs) (e next h)
-then-same k at (Look c t next) h e = ap (λ (cs : List Call). look c t ∷ cs) (e next h)
+then-same k at (Called c next) h e = ap (λ (cs : List Call). c ∷ cs) (e next h)
 then-same k at NoCall h e = refl
 
 -- past the end there is none
@@ -96,17 +63,13 @@ enough s (suc f) (suc g) at h k =
 -- the calls of a line, then those after it
 line-then : (line : CallLine) (f : ℕ → List Call) → (lineAfter line ≡ 0 → ⊥) → thenCalls f line ≡ callIn line ++ f (lineAfter line)
 unfolding thenCalls lineAfter
-line-then (Release i t next) f h = refl
-line-then (Finish i t next) f h = refl
-line-then (Look c t next) f h = refl
+line-then (Called c next) f h = refl
 line-then NoCall f h = absurd (h refl)
 
 -- a line that cannot be read has no calls
 line-bad : (line : CallLine) (f : ℕ → List Call) → Reach 9 0 line → lineAfter line ≡ 0 → thenCalls f line ≡ []
 unfolding thenCalls lineAfter
-line-bad (Release i t next) f r h = absurd (omega (arith, r, h))
-line-bad (Finish i t next) f r h = absurd (omega (arith, r, h))
-line-bad (Look c t next) f r h = absurd (omega (arith, r, h))
+line-bad (Called c next) f r h = absurd (omega (arith, r, h))
 line-bad NoCall f r h = refl
 
 -- the calls from a place on
@@ -135,8 +98,9 @@ answers-append : (r : Record) (xs ys : List Call) → answersText r (xs ++ ys) �
 unfolding answersText
 answers-append r [] ys = refl
 answers-append r (x ∷ xs) ys =
-    ap (λ (l : List ℕ). answerText r x ++ l) (answers-append (step r x) xs ys)
-    ∙ sym (append-assoc (answerText r x) (answersText (step r x) xs) (answersText (after (step r x) xs) ys))
+    let line = answerLine (answeredOf r x .answer) in
+    ap (λ (l : List ℕ). line ++ l) (answers-append (step r x) xs ys)
+    ∙ sym (append-assoc line (answersText (step r x) xs) (answersText (after (step r x) xs) ys))
 
 -- while calls are played: what is written, and what is left to play, make up the whole
 pub record Playing (s : List ℕ) (from : ℕ) (first : Record) (before : List ℕ) (held : Record) (now : List ℕ) (at end : ℕ) : Type 0 where
@@ -144,12 +108,12 @@ pub record Playing (s : List ℕ) (from : ℕ) (first : Record) (before : List �
   pub wrote : Wrote before 0 done now end
   pub left : answersText first (callsAt s from) ≡ done ++ answersText held (callsAt s at)
   pub few : end ≤ 7 * at
-  pub short : end ≤ 460000
+  pub short : end ≤ answersLimit
 
 pub begun : (s : List ℕ) (from : ℕ) (first : Record) (before : List ℕ) → Playing s from first before first before from 0
 begun s from first before = record { done = []; wrote = none before 0; left = refl; few = omega arith; short = omega arith }
 
-module _ {s : List ℕ} {from : ℕ} {first : Record} {before : List ℕ} {held : Record} {now : List ℕ} {at end : ℕ} (h : Playing s from first before held now at end) where
+module _ {s before now : List ℕ} {first held : Record} {from at end : ℕ} (h : Playing s from first before held now at end) where
   -- all is written where nothing is left
   all : callsAt s at ≡ [] → Wrote before 0 (answersText first (callsAt s from)) now end
   unfolding answersText

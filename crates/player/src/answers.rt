@@ -1,4 +1,5 @@
 // Writing a call's answer.
+use dispatch::call::Answer;
 use dispatch::look::Choice;
 use dispatch::look::Side;
 use units::ticks::Ticks;
@@ -7,52 +8,15 @@ use writing::put_byte;
 use writing::put_field;
 use writing::put_signed;
 use writing::put_text;
+use writing::refused::put_refusal;
 ghost use Prim.Native.Nat.{_+_, _≤_};
 ghost use mathlib.Core.List.{_++_};
 ghost use Rattle.writing.specs.Decimal.{decimalOf};
 ghost use Rattle.writing.specs.Field.{field};
 ghost use Rattle.writing.specs.Limits.{placeLimit};
 ghost use Rattle.writing.specs.Wrote.{Wrote};
-ghost use Rattle.player.specs.Answers.{refusedText, releasedText, finishedText, moverText, choiceText, lookedText};
+ghost use Rattle.player.specs.Answers.{moverText, choiceText, answerLine};
 ghost use lib.ListN.{length};
-
-// A refused call.
-fn put_refused(buf: &mut [u8], at: usize, refusal: u32) -> usize
-    requires { ⌜ at + 60 ≤ placeLimit ⌝ }
-    ensures { λ r. ⌜ Wrote (now (buf .entry)) at (refusedText refusal) (now (buf .exit)) r ⌝ }
-    ensures { λ r. ⌜ r ≤ at + 60 ⌝ }
-{
-    let a = put_field(buf, at, b"refused ", refusal as u64);
-    put_byte(buf, a, NEWLINE)
-}
-
-// A release's answer.
-pub fn put_released(buf: &mut [u8], at: usize, refusal: u32, core: usize, deadline: Ticks) -> usize
-    requires { ⌜ at + 60 ≤ placeLimit ⌝ }
-    ensures { λ r. ⌜ Wrote (now (buf .entry)) at (releasedText refusal core (deadline .0)) (now (buf .exit)) r ⌝ }
-    ensures { λ r. ⌜ r ≤ at + 60 ⌝ }
-{
-    if refusal != 0 {
-        return put_refused(buf, at, refusal);
-    }
-    let a = put_field(buf, at, b"core ", core as u64);
-    let b = put_field(buf, a, b" deadline ", deadline.0);
-    put_byte(buf, b, NEWLINE)
-}
-
-// A finish's answer.
-pub fn put_finished(buf: &mut [u8], at: usize, refusal: u32, late: i64) -> usize
-    requires { ⌜ at + 60 ≤ placeLimit ⌝ }
-    ensures { λ r. ⌜ Wrote (now (buf .entry)) at (finishedText refusal late) (now (buf .exit)) r ⌝ }
-    ensures { λ r. ⌜ r ≤ at + 60 ⌝ }
-{
-    if refusal != 0 {
-        return put_refused(buf, at, refusal);
-    }
-    let a = put_text(buf, at, b"late ");
-    let b = put_signed(buf, a, late);
-    put_byte(buf, b, NEWLINE)
-}
 
 // A chosen task and its deadline, after a word.
 fn put_chosen(buf: &mut [u8], at: usize, word: &[u8], task: usize, deadline: Ticks) -> usize
@@ -89,15 +53,27 @@ fn put_choice(buf: &mut [u8], at: usize, choice: Choice) -> usize
     }
 }
 
-// A look's answer.
-pub fn put_looked(buf: &mut [u8], at: usize, refusal: u32, choice: Choice) -> usize
+// A call's answer, a line.
+pub(crate) fn put_answer(buf: &mut [u8], at: usize, answer: Answer) -> usize
     requires { ⌜ at + 60 ≤ placeLimit ⌝ }
-    ensures { λ r. ⌜ Wrote (now (buf .entry)) at (lookedText refusal choice) (now (buf .exit)) r ⌝ }
+    ensures { λ r. ⌜ Wrote (now (buf .entry)) at (answerLine answer) (now (buf .exit)) r ⌝ }
     ensures { λ r. ⌜ r ≤ at + 60 ⌝ }
 {
-    if refusal != 0 {
-        return put_refused(buf, at, refusal);
+    match answer {
+        Answer::Refused(refusal) => put_refusal(buf, at, refusal),
+        Answer::Released(core, deadline) => {
+            let a = put_field(buf, at, b"core ", core as u64);
+            let b = put_field(buf, a, b" deadline ", deadline.0);
+            put_byte(buf, b, NEWLINE)
+        }
+        Answer::Finished(late) => {
+            let a = put_text(buf, at, b"late ");
+            let b = put_signed(buf, a, late);
+            put_byte(buf, b, NEWLINE)
+        }
+        Answer::Looked(choice) => {
+            let a = put_choice(buf, at, choice);
+            put_byte(buf, a, NEWLINE)
+        }
     }
-    let a = put_choice(buf, at, choice);
-    put_byte(buf, a, NEWLINE)
 }

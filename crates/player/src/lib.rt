@@ -1,4 +1,4 @@
 // The call player: a table and calls in, a line for each call out.
-pub mod answers;
+mod answers;
 pub mod play;
-pub mod played;
+mod played;

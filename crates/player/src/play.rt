@@ -1,39 +1,54 @@
 // What the player writes for an input.
 use crate::played::play_calls;
+use calls_text::INPUT;
 use calls_text::calls::calls_place;
 use calls_text::calls::first_bad;
 use dispatch::Record;
-use plan_answer::put_refusal;
-use plan_answer::put_unreadable;
 use table_text::NUMBERS;
 use table_text::Reading;
 use table_text::read_text;
+use units::refusal::Refusal;
+use writing::refused::put_refusal;
 ghost use Prim.Native.Nat.{_≤_};
 ghost use lib.ListN.{length};
+ghost use Rattle.units.specs.Refusals.{refusal, textNo};
 ghost use Rattle.writing.specs.Wrote.{Wrote};
-ghost use Rattle.table_text.specs.Text.{says};
-ghost use Rattle.calls_text.specs.Input.{inputLimit, plays, afterTable};
-ghost use Rattle.player.specs.Played.{givenText, playText};
+ghost use Rattle.writing.specs.Refused.{refusalText};
+ghost use Rattle.calls_text.specs.Input.{inputLimit, plays};
+ghost use Rattle.player.specs.Played.{answersLimit, givenText, tablePlayed, playText};
 
-// Bytes of an input, at most.
-pub const INPUT: usize = 65_536;
-// Bytes that any answer fits.
-pub const ANSWERS: usize = 524_288;
+// Bytes of the answers to an input, at most.
+pub const ANSWERS: usize = 460_000;
+
+// Refusal 16, which names a line.
+fn put_unreadable(out: &mut [u8], line: usize) -> usize
+    ensures { λ r. ⌜ Wrote (now (out .entry)) 0 (refusalText (refusal textNo line)) (now (out .exit)) r ⌝ }
+    ensures { λ r. ⌜ r ≤ 60 ⌝ }
+{
+    put_refusal(
+        out,
+        0,
+        Refusal {
+            no: Refusal::TEXT,
+            named: line,
+        },
+    )
+}
 
 // The calls after a table that can be read, whose text ends at a place.
 fn play_table(text: &[u8], place: usize, cores: u32, table: &[u32], out: &mut [u8]) -> usize
     requires { ⌜ (length (now text) ≤ inputLimit) × (length (now table) ≤ 2048) ⌝ }
-    ensures { λ r. ⌜ Wrote (now (out .entry)) 0 (givenText (now (text .entry)) (afterTable (now (text .entry)) place (says cores (now (table .entry))))) (now (out .exit)) r ⌝ }
-    ensures { λ r. ⌜ r ≤ 460000 ⌝ }
+    ensures { λ r. ⌜ Wrote (now (out .entry)) 0 (tablePlayed (now (text .entry)) place cores (now (table .entry))) (now (out .exit)) r ⌝ }
+    ensures { λ r. ⌜ r ≤ answersLimit ⌝ }
 {
     let tasks = table.len() / 2;
     if text.len() <= place {
-        return put_unreadable(out, 0, 2 + tasks);
+        return put_unreadable(out, 2 + tasks);
     }
     let from = place + 6;
     let bad = first_bad(text, from, 3 + tasks);
     if bad != 0 {
-        return put_unreadable(out, 0, bad);
+        return put_unreadable(out, bad);
     }
     play_taken(text, from, cores, table, out)
 }
@@ -42,7 +57,7 @@ fn play_table(text: &[u8], place: usize, cores: u32, table: &[u32], out: &mut [u
 fn play_taken(text: &[u8], from: usize, cores: u32, table: &[u32], out: &mut [u8]) -> usize
     requires { ⌜ length (now text) ≤ inputLimit ⌝ }
     ensures { λ r. ⌜ Wrote (now (out .entry)) 0 (givenText (now (text .entry)) (plays cores (now (table .entry)) from)) (now (out .exit)) r ⌝ }
-    ensures { λ r. ⌜ r ≤ 460000 ⌝ }
+    ensures { λ r. ⌜ r ≤ answersLimit ⌝ }
 {
     let fresh = Record::fresh(cores, table);
     let refusal = fresh.refusal;
@@ -56,15 +71,15 @@ fn play_taken(text: &[u8], from: usize, cores: u32, table: &[u32], out: &mut [u8
 // The answers to an input's calls, or its refusal, and their length.
 pub fn play(text: &[u8], out: &mut [u8]) -> usize
     ensures { λ r. ⌜ Wrote (now (out .entry)) 0 (playText (now (text .entry))) (now (out .exit)) r ⌝ }
-    ensures { λ r. ⌜ r ≤ 460000 ⌝ }
+    ensures { λ r. ⌜ r ≤ answersLimit ⌝ }
 {
     if INPUT < text.len() {
-        return put_unreadable(out, 0, 0);
+        return put_unreadable(out, 0);
     }
     let place = calls_place(text);
     let mut table = [0u32; NUMBERS];
     match read_text(&text[0..place], &mut table) {
-        Reading::Unreadable(line) => put_unreadable(out, 0, line),
+        Reading::Unreadable(line) => put_unreadable(out, line),
         Reading::Read { cores, count } => play_table(text, place, cores, &table[0..count], out),
     }
 }

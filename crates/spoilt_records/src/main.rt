@@ -42,12 +42,12 @@ fn answer(record: Record, bytes: &[u8], at: usize)
     let question = question_at(bytes, at);
     let asked = spoilt(record, question);
     let sound = asked.sound();
-    let answer = answer_of(asked, question);
-    let next = answer.next;
-    let said = answer.said;
+    let answered = answer_of(asked, question);
+    let next = answered.next;
+    let answer = answered.answer;
     let sum = record_sum(next);
     let mut line = [0u8; ROOM];
-    let n = put_line(&mut line, sound, answer.refusal, said, sum);
+    let n = put_line(&mut line, sound, answer, sum);
     write_output(&line[0..n]);
 }
 

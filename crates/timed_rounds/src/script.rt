@@ -4,6 +4,7 @@ use calls_text::line::CallLine;
 use calls_text::line::line_after;
 use calls_text::line::read_call;
 use dispatch::Record;
+use dispatch::call::Call;
 use dispatch::look::Choice;
 use units::ticks::Ticks;
 ghost use Prim.Native.Nat.{_≤_};
@@ -29,21 +30,27 @@ pub struct Answered {
     pub sum: u64,
 }
 
-fn step_from(kind: u8, number: u64, time: u64) -> Step {
+fn step_from(kind: u8, number: usize, time: Ticks) -> Step {
     Step {
         kind: kind,
-        number: number as usize,
-        time: Ticks(time),
+        number: number,
+        time: time,
+    }
+}
+
+fn step_by(call: Call) -> Step {
+    match call {
+        Call::Release(i, t) => step_from(1, i, t),
+        Call::Finish(i, t) => step_from(2, i, t),
+        Call::Look(k, t) => step_from(3, k, t),
     }
 }
 
 // The call of a line.
 fn step_of(line: CallLine) -> Step {
     match line {
-        CallLine::Release(i, t, next) => step_from(1, i, t),
-        CallLine::Finish(i, t, next) => step_from(2, i, t),
-        CallLine::Look(k, t, next) => step_from(3, k, t),
-        CallLine::NoCall => step_from(0, 0, 0),
+        CallLine::Called(call, next) => step_by(call),
+        CallLine::NoCall => step_from(0, 0, Ticks(0)),
     }
 }
 

@@ -1,4 +1,4 @@
--- `input::calls::calls_here` meets its contract.
+-- `calls_text::calls::calls_here` meets its contract.
 use mathlib.Core.Path.{sym, _∙_}
 use borrow.Author.Tests.{not-true, not-false}
 use Rattle.calls_text.proofs.Places.{no-start, not-here, is-here}

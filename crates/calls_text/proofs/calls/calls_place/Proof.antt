@@ -3,7 +3,7 @@ use mathlib.Core.Path.{sym, _∙_}
 use lib.ListN.{length}
 use Rattle.calls_text.proofs.Places.{Sought, first, found, passed, none}
 use borrow.Author.Needs.{needs}
--- `input::calls::calls_place` meets its contract.
+-- `calls_text::calls::calls_place` meets its contract.
 use Rattle.calls_text.proofs.calls.calls_place.Statement.{statement}
 use Rattle.calls_text.proofs.calls.calls_place.Tie as tie
 

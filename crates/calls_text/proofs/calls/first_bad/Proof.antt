@@ -6,7 +6,7 @@ use Rattle.scanning.proofs.Sought.{Sought, first, later, here, ended}
 use Rattle.calls_text.specs.Line.{callLine, lineAfter}
 use Rattle.calls_text.proofs.Lines.{ahead}
 use borrow.Author.Needs.{needs}
--- `input::calls::first_bad` meets its contract.
+-- `calls_text::calls::first_bad` meets its contract.
 use Rattle.calls_text.proofs.calls.first_bad.Statement.{statement}
 use Rattle.calls_text.proofs.calls.first_bad.Tie as tie
 
@@ -28,7 +28,8 @@ line-after-requires c κs = search needs
 returns : tie.Need-returns Inv-loop μ-loop
 returns c =
     let n = c .before .before .before in
-    sym (here _ _ _ _ _ _ (n .before .loop .inv) (n .loop-test .taken) (ap lineAfter (sym (c .before .before .read-call .ensures)) ∙ sym (c .before .line-after .ensures) ∙ c .if1 .taken))
+    let e = ap lineAfter (sym (c .before .before .read-call .ensures)) ∙ sym (c .before .line-after .ensures) in
+    sym (here _ _ _ _ _ _ (n .before .loop .inv) (n .loop-test .taken) (e ∙ c .if1 .taken))
 
 add-line : tie.Need-add-line Inv-loop μ-loop
 add-line c = search needs

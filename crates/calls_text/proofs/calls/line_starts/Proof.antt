@@ -1,4 +1,4 @@
--- `input::calls::line_starts` meets its contract.
+-- `calls_text::calls::line_starts` meets its contract.
 use mathlib.Core.Path.{refl}
 use borrow.Author.Tests.{ne-eqb}
 use borrow.Author.Needs.{needs}

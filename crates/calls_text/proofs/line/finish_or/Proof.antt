@@ -1,6 +1,7 @@
--- `input::line::finish_or` meets its contract.
+-- `calls_text::line::finish_or` meets its contract.
 use mathlib.Core.Path.{sym, ap, _∙_}
-use Rattle.calls_text.specs.Line.{finishOr}
+use Rattle.dispatch.specs.declared.call.Call.the-variants.{Finish}
+use Rattle.calls_text.specs.Line.{callOr, finishLine}
 use borrow.Author.Needs.{needs}
 use Rattle.calls_text.proofs.line.finish_or.Statement.{statement}
 use Rattle.calls_text.proofs.line.finish_or.Tie as tie
@@ -24,16 +25,16 @@ read-finish-requires : tie.Need-read-finish-requires
 read-finish-requires c κs = search needs
 
 returns : tie.Need-returns
-unfolding finishOr
+unfolding callOr finishLine
 returns c =
     let k = c .before in
-    c .look-or .ensures ∙ sym (ap (finishOr _ _) (sym (k .before .before .read-word .ensures) ∙ k .enum-told .given .1))
+    c .look-or .ensures ∙ sym (ap (callOr Finish _ _) (sym (k .before .before .read-word .ensures) ∙ k .enum-told .given .1))
 
 returns-2 : tie.Need-returns-2
-unfolding finishOr
+unfolding callOr finishLine
 returns-2 c =
     let k = c .before in
-    c .read-finish .ensures ∙ sym (ap (finishOr _ _) (sym (k .before .before .before .read-word .ensures) ∙ k .before .next .given .1))
+    c .read-finish .ensures ∙ sym (ap (callOr Finish _ _) (sym (k .before .before .before .read-word .ensures) ∙ k .before .next .given .1))
 
 pub finish-or-spec : {M : Type 1} → statement M
 finish-or-spec =

@@ -1,6 +1,7 @@
--- `input::line::look_or` meets its contract.
+-- `calls_text::line::look_or` meets its contract.
 use mathlib.Core.Path.{sym, ap, _∙_}
-use Rattle.calls_text.specs.Line.{lookOr}
+use Rattle.dispatch.specs.declared.call.Call.the-variants.{Look}
+use Rattle.calls_text.specs.Line.{callOr, lookLine}
 use borrow.Author.Needs.{needs}
 use Rattle.calls_text.proofs.line.look_or.Statement.{statement}
 use Rattle.calls_text.proofs.line.look_or.Tie as tie
@@ -21,14 +22,14 @@ read-look-requires : tie.Need-read-look-requires
 read-look-requires c κs = search needs
 
 returns : tie.Need-returns
-unfolding lookOr
-returns c = sym (ap (lookOr _) (sym (c .before .before .read-word .ensures) ∙ c .enum-told .given .1))
+unfolding callOr lookLine
+returns c = sym (ap (callOr Look _ _) (sym (c .before .before .read-word .ensures) ∙ c .enum-told .given .1))
 
 returns-2 : tie.Need-returns-2
-unfolding lookOr
+unfolding callOr lookLine
 returns-2 c =
     let k = c .before in
-    c .read-look .ensures ∙ sym (ap (lookOr _) (sym (k .before .before .before .read-word .ensures) ∙ k .before .next .given .1))
+    c .read-look .ensures ∙ sym (ap (callOr Look _ _) (sym (k .before .before .before .read-word .ensures) ∙ k .before .next .given .1))
 
 pub look-or-spec : {M : Type 1} → statement M
 look-or-spec =

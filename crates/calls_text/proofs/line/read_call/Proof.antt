@@ -1,6 +1,7 @@
--- `input::line::read_call` meets its contract.
+-- `calls_text::line::read_call` meets its contract.
 use mathlib.Core.Path.{sym, ap, _∙_}
-use Rattle.calls_text.specs.Line.{releaseOr, callLine}
+use Rattle.dispatch.specs.declared.call.Call.the-variants.{Release}
+use Rattle.calls_text.specs.Line.{callOr, callLine}
 use borrow.Author.Needs.{needs}
 use Rattle.calls_text.proofs.line.read_call.Statement.{statement}
 use Rattle.calls_text.proofs.line.read_call.Tie as tie
@@ -24,16 +25,16 @@ read-release-requires : tie.Need-read-release-requires
 read-release-requires c κs = search needs
 
 returns : tie.Need-returns
-unfolding releaseOr callLine
+unfolding callOr callLine
 returns c =
     let k = c .before in
-    c .finish-or .ensures ∙ sym (ap (releaseOr _ _) (sym (k .before .before .read-word .ensures) ∙ k .enum-told .given .1))
+    c .finish-or .ensures ∙ sym (ap (callOr Release _ _) (sym (k .before .before .read-word .ensures) ∙ k .enum-told .given .1))
 
 returns-2 : tie.Need-returns-2
-unfolding releaseOr callLine
+unfolding callOr callLine
 returns-2 c =
     let k = c .before in
-    c .read-release .ensures ∙ sym (ap (releaseOr _ _) (sym (k .before .before .before .read-word .ensures) ∙ k .before .next .given .1))
+    c .read-release .ensures ∙ sym (ap (callOr Release _ _) (sym (k .before .before .before .read-word .ensures) ∙ k .before .next .given .1))
 
 pub read-call-spec : {M : Type 1} → statement M
 read-call-spec =

@@ -1,6 +1,7 @@
--- `input::line::read_look` meets its contract.
+-- `calls_text::line::read_look` meets its contract.
 use mathlib.Core.Path.{sym, ap, _∙_}
-use Rattle.calls_text.specs.Line.{asLook}
+use Rattle.dispatch.specs.declared.call.Call.the-variants.{Look}
+use Rattle.calls_text.specs.Line.{asCall}
 use borrow.Author.Needs.{needs}
 use Rattle.calls_text.proofs.line.read_look.Statement.{statement}
 use Rattle.calls_text.proofs.line.read_look.Tie as tie
@@ -15,12 +16,12 @@ enum-known-k : tie.Need-enum-known-k
 enum-known-k c = search needs
 
 returns : tie.Need-returns
-unfolding asLook
-returns c = sym (ap asLook (sym (c .before .before .read-pair .ensures) ∙ c .enum-told .given .1))
+unfolding asCall
+returns c = sym (ap (asCall Look) (sym (c .before .before .read-pair .ensures) ∙ c .enum-told .given .1))
 
 returns-2 : tie.Need-returns-2
-unfolding asLook
-returns-2 c = sym (ap asLook (sym (c .before .before .before .read-pair .ensures) ∙ c .before .k .given .1))
+unfolding asCall
+returns-2 c = sym (ap (asCall Look) (sym (c .before .before .before .read-pair .ensures) ∙ c .before .k .given .1))
 
 pub read-look-spec : {M : Type 1} → statement M
 read-look-spec = tie.close (tie.spec read-pair-requires enum-told enum-known-k returns returns-2)

@@ -1,6 +1,7 @@
--- `input::line::read_release` meets its contract.
+-- `calls_text::line::read_release` meets its contract.
 use mathlib.Core.Path.{sym, ap, _∙_}
-use Rattle.calls_text.specs.Line.{asRelease}
+use Rattle.dispatch.specs.declared.call.Call.the-variants.{Release}
+use Rattle.calls_text.specs.Line.{asCall}
 use borrow.Author.Needs.{needs}
 use Rattle.calls_text.proofs.line.read_release.Statement.{statement}
 use Rattle.calls_text.proofs.line.read_release.Tie as tie
@@ -15,12 +16,12 @@ enum-known-i : tie.Need-enum-known-i
 enum-known-i c = search needs
 
 returns : tie.Need-returns
-unfolding asRelease
-returns c = sym (ap asRelease (sym (c .before .before .read-pair .ensures) ∙ c .enum-told .given .1))
+unfolding asCall
+returns c = sym (ap (asCall Release) (sym (c .before .before .read-pair .ensures) ∙ c .enum-told .given .1))
 
 returns-2 : tie.Need-returns-2
-unfolding asRelease
-returns-2 c = sym (ap asRelease (sym (c .before .before .before .read-pair .ensures) ∙ c .before .i .given .1))
+unfolding asCall
+returns-2 c = sym (ap (asCall Release) (sym (c .before .before .before .read-pair .ensures) ∙ c .before .i .given .1))
 
 pub read-release-spec : {M : Type 1} → statement M
 read-release-spec =
