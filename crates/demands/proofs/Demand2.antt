@@ -65,5 +65,6 @@ module _ (m : ℕ) (xs : List ℕ) (ok : planOf m xs .refusal .no ≡ 0) where
 
   -- every bound lies from -1,000,000 to 1,000,000,000
   pub bounds-in-range : (i : ℕ)
-      → (leZ (negsuc 999999) (getD (latesOf (planOf m xs .plan)) i (pos 0)) ≡ true) × (leZ (getD (latesOf (planOf m xs .plan)) i (pos 0)) (pos 1000000000) ≡ true)
+      → (leZ (negsuc 999999) (getD (latesOf (planOf m xs .plan)) i (pos 0)) ≡ true) ×
+      (leZ (getD (latesOf (planOf m xs .plan)) i (pos 0)) (pos 1000000000) ≡ true)
   bounds-in-range = late-range (planOf m xs .plan) placed-whole

@@ -55,4 +55,5 @@ module _ (r : Record) (k : ℕ) where
   unfolding bestOf
   found zero = λ i l. absurd (omega arith)
   found (suc n) =
-      rw (add-one n) at (found-one n (bestOf r k n .task) (bestOf r k n .key) (waits (stateAt r n) k) (ltb (keyAt r k n) (bestOf r k n .key)) refl refl (found n))
+      rw (add-one n) at (found-one n (bestOf r k n .task) (bestOf r k n .key) (waits (stateAt r n) k)
+      (ltb (keyAt r k n) (bestOf r k n .key)) refl refl (found n))

@@ -20,7 +20,8 @@ numbers-length (a ∷ b ∷ c ∷ []) = refl
 numbers-length (a ∷ b ∷ c ∷ d ∷ bytes) = omega (arith, numbers-length bytes)
 
 -- from number k on: its four bytes, then the numbers after it
-number-drop : (bytes : List ℕ) (k : ℕ) → 4 * k + 3 < length bytes → numbersOf (drop (4 * k) bytes) ≡ number32At bytes (4 * k) ∷ numbersOf (drop (4 * (k + 1)) bytes)
+number-drop : (bytes : List ℕ) (k : ℕ) → 4 * k + 3 < length bytes → numbersOf (drop (4 * k) bytes) ≡ number32At bytes (4 * k) ∷ numbersOf
+    (drop (4 * (k + 1)) bytes)
 number-drop bytes k h =
     let one : suc (4 * k) ≡ 4 * k + 1 = omega arith in
     let two : suc (4 * k + 1) ≡ 4 * k + 2 = omega arith in

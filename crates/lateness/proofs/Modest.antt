@@ -69,8 +69,20 @@ module _ (pl : Plan) (k : PlanKept pl) (p : ℕ) where
       record {
         common = l;
         room = omega arith;
-        upper = record { share = omega arith; reach = omega (arith, most-ge rs (firstCore (rowOf (upperOn p (pl .lines))))); period = m .upper-period; cost = m .upper-cost };
-        lower = record { share = omega arith; reach = omega (arith, most-ge rs (firstCore (rowOf (lowerOn p (pl .lines))))); period = m .lower-period; cost = m .lower-cost };
+        upper = record {
+          share = omega arith;
+          reach = omega
+              (arith, most-ge rs (firstCore (rowOf (upperOn p (pl .lines)))));
+          period = m .upper-period;
+          cost = m .upper-cost;
+        };
+        lower = record {
+          share = omega arith;
+          reach = omega
+              (arith, most-ge rs (firstCore (rowOf (lowerOn p (pl .lines)))));
+          period = m .lower-period;
+          cost = m .lower-cost;
+        };
       }
 
   -- the movers as the code keeps them

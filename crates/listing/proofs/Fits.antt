@@ -71,7 +71,14 @@ head-length i ln h c t w =
     let d = field " period " (ln .period .0) in
     let e = field " weight " (ln .weight .0) in
     rw (length-append (a ++ b ++ d) e, length-append (a ++ b) d, length-append a b)
-    (omega (arith, decimal-length 1 i (omega arith), decimal-length 6 (ln .cost .0) (omega arith), decimal-length 6 (ln .period .0) (omega arith), decimal-length 6 (ln .weight .0) (omega arith)))
+    (omega (
+      arith,
+      decimal-length 1 i (omega arith),
+      decimal-length 6 (ln .cost .0) (omega arith),
+      decimal-length 6 (ln .period .0)
+          (omega arith),
+      decimal-length 6 (ln .weight .0) (omega arith),
+    ))
 
 -- a task's line
 task-length : (i : ℕ) (ln : Line) (z : ℤ) → length (headText i ln) ≤ 50 → length (rowText (rowOf ln)) ≤ 182 → length (lateText z) ≤ 17

@@ -91,7 +91,11 @@ same-width : (p q : Plan) → PlanShaped p → PlanShaped q → (i : ℕ) → le
 same-width p q f g i =
     either i tasksLimit
     (λ h. f .shares i h ∙ sym (g .shares i h))
-    (λ h. rw (List·getD-eq-default (p .lines) noLine {n = i} (omega (arith, f .lines)), List·getD-eq-default (q .lines) noLine {n = i} (omega (arith, g .lines))))
+    (λ h. rw (
+      List·getD-eq-default (p .lines) noLine {n = i} (omega (arith, f .lines)),
+      List·getD-eq-default (q .lines) noLine {n = i}
+          (omega (arith, g .lines)),
+    ))
 
 -- the lines of a plan's first n tasks
 abbrev linesText : Plan → ℕ → List ℕ

@@ -16,7 +16,7 @@ ghost use Prim.Native.Nat.{_+_, _*_, _≤_};
 ghost use Rattle.units.specs.Limits.{tasksLimit};
 ghost use Rattle.units.specs.Units.{nums};
 ghost use Rattle.lists.specs.Lists.{parts as partsOf};
-ghost use Rattle.writing.specs.Limits.{placeLimit};
+ghost use Rattle.writing.specs.Inner.{placeLimit};
 ghost use Rattle.writing.specs.Wrote.{Wrote};
 ghost use Rattle.lateness.specs.Lateness.{latesOf};
 ghost use Rattle.listing.specs.Listing.{shareText, sharesText, headText, rowText, lateText, taskText, tasksText, listingText};

@@ -13,7 +13,7 @@ ghost use Prim.Native.Nat.{_+_, _≤_};
 ghost use mathlib.Core.List.{_++_};
 ghost use Rattle.writing.specs.Decimal.{decimalOf};
 ghost use Rattle.writing.specs.Field.{field};
-ghost use Rattle.writing.specs.Limits.{placeLimit};
+ghost use Rattle.writing.specs.Inner.{placeLimit};
 ghost use Rattle.writing.specs.Wrote.{Wrote};
 ghost use Rattle.player.specs.Answers.{moverText, choiceText, answerLine};
 ghost use lib.ListN.{length};

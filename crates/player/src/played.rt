@@ -7,7 +7,7 @@ use dispatch::Record;
 ghost use mathlib.Core.Path.{_≡_};
 ghost use Prim.Native.Nat.{_+_, _≤_};
 ghost use lib.ListN.{length};
-ghost use Rattle.writing.specs.Limits.{placeLimit};
+ghost use Rattle.writing.specs.Inner.{placeLimit};
 ghost use Rattle.writing.specs.Wrote.{Wrote};
 ghost use Rattle.dispatch.specs.Calls.{after};
 ghost use Rattle.calls_text.specs.Input.{inputLimit, callIn, callsFrom};

@@ -10,7 +10,7 @@ unfoldable pub pairEnd : Pair → ℕ
 pairEnd (Two x y at) = at
 pairEnd NoPair = 0
 
--- the first unreadable one of the lines from a place on, where this line starts, and 0 if there is none; n is the text's length, and f no less than the lines' number
+-- the first unreadable one of the lines from a place on, where this line starts, 0 if there is none; n is the text's length, f no less than its lines
 unfoldable pub unreadableFrom : (ℕ → ℕ) → ℕ → ℕ → ℕ → ℕ → ℕ
 unreadableFrom next zero n line at = 0
 unreadableFrom next (suc f) n line at =

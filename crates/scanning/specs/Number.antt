@@ -1,5 +1,5 @@
 -- A number of a text: decimal, no leading zeros, below a bound b.
-use Prim.Native.Nat.{ℕ, _+_, _-_, _*_, _≤_}
+use Prim.Native.Nat.{ℕ, _+_, _-_, _*_}
 use mathlib.Core.Bool.{cond}
 use mathlib.Core.List.{List, [], _∷_}
 use lib.Dec.{ltb, leb, eqb}
@@ -30,8 +30,3 @@ firstOf b (x ∷ s) at =
 -- the number at a place of the text, with the place after it
 unfoldable pub numberAt : ℕ → List ℕ → ℕ → Number
 numberAt b s at = firstOf b (drop at s) at
-
--- bounds that the reader takes: every digit is below them, and a digit more fits 64 bits
-pub record Bound (b : ℕ) : Type 0 where
-  pub least : 10 ≤ b
-  pub most : b ≤ 1000000000000000000

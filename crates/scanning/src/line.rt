@@ -7,7 +7,7 @@ ghost use mathlib.Core.Path.{_≡_};
 ghost use Prim.Native.Nat.{_<_};
 ghost use lib.ListN.{getD};
 ghost use Rattle.writing.specs.Ascii.{newline};
-ghost use Rattle.scanning.specs.Number.{Bound};
+ghost use Rattle.scanning.specs.Inner.{Bound};
 ghost use Rattle.scanning.specs.Line.{fieldAt, secondAfter, pairAt};
 
 // Two numbers, and the place after their line.

@@ -2,7 +2,8 @@
 ghost use mathlib.Core.Path.{_≡_};
 ghost use Prim.Native.Nat.{_≤_, _<_};
 ghost use lib.ListN.{length, drop};
-ghost use Rattle.scanning.specs.Number.{digitOf, digitsOf, numberAt, Bound};
+ghost use Rattle.scanning.specs.Number.{digitOf, digitsOf, numberAt};
+ghost use Rattle.scanning.specs.Inner.{Bound};
 
 // A number and the place after it.
 pub enum Number {

@@ -42,21 +42,25 @@ module _ (m l : ℕ) (xs ws : List ℕ) (f : Fits m l xs ws) where
   held = placed m l ws (f .cores-some) (f .cores-few) (f .each) (f .all)
 
   -- each line has its task's numbers, or none
-  pub each-line : (P : Line → Type 0) → P emptyLine → P noLine → ((k : ℕ) → k < length xs / 2 → P (line (getD xs (2 * k) 0) (getD xs (2 * k + 1) 0) (getD ws k 0) (getD rows k [])))
+  pub each-line : (P : Line → Type 0) → P emptyLine → P noLine →
+      ((k : ℕ) → k < length xs / 2 → P (line (getD xs (2 * k) 0) (getD xs (2 * k + 1) 0) (getD ws k 0) (getD rows k [])))
       → (i : ℕ) → P (getD (paddedLines (linesOf xs ws rows)) i noLine)
   each-line P e n t i =
       by-cases (ltb i (length xs / 2))
       (λ a. subst⁻¹ P (task-line xs ws rows (f .tasks-few) (f .weighed) rows-long i (ltb-true i (length xs / 2) a)) (t i (ltb-true i (length xs / 2) a)))
       (λ a. by-cases (ltb i tasksLimit)
       (λ b. subst⁻¹ P (empty-line xs ws rows (f .tasks-few) (f .weighed) rows-long i (ltb-false i (length xs / 2) a) (ltb-true i tasksLimit b)) e)
-      (λ b. subst⁻¹ P (List·getD-eq-default (paddedLines (linesOf xs ws rows)) noLine {n = i} (omega (arith, ltb-false i tasksLimit b, long xs ws rows (f .tasks-few) (f .weighed) rows-long))) n))
+      (λ b. subst⁻¹ P (List·getD-eq-default (paddedLines (linesOf xs ws rows)) noLine {n = i}
+      (omega (arith, ltb-false i tasksLimit b, long xs ws rows (f .tasks-few) (f .weighed) rows-long))) n))
 
   pub keeps : PlanKept (planFor m l ws xs)
   unfolding planFor emptyLine
   keeps =
-      let w : map (λ (ln : Line). ln .weight .0) (paddedLines (linesOf xs ws rows)) ≡ ws = weights-back xs ws rows (f .tasks-few) (f .weighed) rows-long (f .none) in
+      let w : map (λ (ln : Line). ln .weight .0) (paddedLines (linesOf xs ws rows)) ≡ ws = weights-back xs ws rows (f .tasks-few)
+      (f .weighed) rows-long (f .none) in
       let t : map (λ (ln : Line). rowOf ln) (paddedLines (linesOf xs ws rows)) ≡ rows =
-      table-back xs ws rows (f .tasks-few) (f .weighed) rows-long (f .none) (held .sums) (λ i h. placed-wide m l ws (f .cores-few) i (omega (arith, f .weighed))) in
+      table-back xs ws rows (f .tasks-few) (f .weighed) rows-long (f .none) (held .sums)
+      (λ i h. placed-wide m l ws (f .cores-few) i (omega (arith, f .weighed))) in
       record {
         cores-some = f .cores-some;
         cores-few = f .cores-few;
@@ -64,5 +68,6 @@ module _ (m l : ℕ) (xs ws : List ℕ) (f : Fits m l xs ws) where
         common-small = f .common-small;
         costs = each-line (λ ln. ln .cost .0 ≤ periodLimit) (omega arith) (omega arith) (f .costs);
         periods = each-line (λ ln. ln .period .0 ≤ periodLimit) (omega arith) (omega arith) (f .periods);
-        structure = subst⁻¹ (λ (vs : List ℕ). Structure m l vs (sharesTable (planFor m l ws xs))) w (subst⁻¹ (λ (tab : List (List ℕ)). Structure m l ws tab) t held);
+        structure = subst⁻¹ (λ (vs : List ℕ). Structure m l vs (sharesTable (planFor m l ws xs))) w
+            (subst⁻¹ (λ (tab : List (List ℕ)). Structure m l ws tab) t held);
       }

@@ -47,7 +47,8 @@ module _ (pl : Plan) (long : length (pl .lines) ≡ tasksLimit) (s : planSound p
       let n = numbers pl (ruled pl s .numbers) in
       let period : Line → ℕ = λ (ln : Line). ln .period .0 in
       let first = take (pl .count) (pl .lines) in
-      let e : getD (map period first) i 0 ≡ lineOf i .period .0 = List·getD-map period first i noLine ∙ ap period (getD-take (pl .count) (pl .lines) i noLine h) in
+      let e : getD (map period first) i 0 ≡ lineOf i .period .0 = List·getD-map period first i noLine ∙ ap period
+      (getD-take (pl .count) (pl .lines) i noLine h) in
       let m : i < length (map period first) = rw (length-map first period, length-take-le (pl .count) (pl .lines) (omega (arith, n .count-few))) h in
       rw (eqb-true (pl .common) (common (map period first)) (ruled pl s .common), ← e) (common-each (map period first) i m)
 

@@ -50,7 +50,13 @@ module _ (xs ws : List ℕ) (rows : List (List ℕ)) (few : length xs ≤ 2 * ta
   count-is = lines-length xs ws rows (omega arith) (omega arith)
 
   pub long : length (paddedLines (linesOf xs ws rows)) ≡ tasksLimit
-  long = omega (arith, length-append (linesOf xs ws rows) (replicate (tasksLimit - length (linesOf xs ws rows)) emptyLine), length-replicate (tasksLimit - length (linesOf xs ws rows)) emptyLine, count-is)
+  long = omega (
+    arith,
+    length-append (linesOf xs ws rows) (replicate (tasksLimit - length (linesOf xs ws rows)) emptyLine),
+    length-replicate
+        (tasksLimit - length (linesOf xs ws rows)) emptyLine,
+    count-is,
+  )
 
   -- the lines of the tasks
   pub task-line : (i : ℕ) → i < length xs / 2
@@ -77,7 +83,9 @@ module _ (xs ws : List ℕ) (rows : List (List ℕ)) (few : length xs ≤ 2 * ta
         (λ i h. List·getD-map (λ (ln : Line). ln .weight .0) lns i noLine ∙
         by-cases (ltb i (length xs / 2))
         (λ e. ap (λ (ln : Line). ln .weight .0) (task-line i (ltb-true i (length xs / 2) e)))
-        (λ e. ap (λ (ln : Line). ln .weight .0) (empty-line i (ltb-false i (length xs / 2) e) (omega (arith, length-map lns (λ (ln : Line). ln .weight .0), long))) ∙ sym (none i (ltb-false i (length xs / 2) e))))
+        (λ e. ap (λ (ln : Line). ln .weight .0)
+        (empty-line i (ltb-false i (length xs / 2) e) (omega (arith, length-map lns (λ (ln : Line). ln .weight .0), long))) ∙ sym
+        (none i (ltb-false i (length xs / 2) e))))
 
     module _ (sums : map total rows ≡ ws) (wide : (i : ℕ) → i < tasksLimit → length (getD rows i []) ≡ coresLimit) where
       -- the table of shares
@@ -90,5 +98,6 @@ module _ (xs ws : List ℕ) (rows : List (List ℕ)) (few : length xs ≤ 2 * ta
           (λ e. ap rowOf (task-line i (ltb-true i (length xs / 2) e)) ∙ nums-units (getD rows i []))
           (λ e.
           let m : i < tasksLimit = omega (arith, length-map lns rowOf, long) in
-          let z : total (getD rows i []) ≡ 0 = sym (List·getD-map total rows i []) ∙ ap (λ (ys : List ℕ). getD ys i 0) sums ∙ none i (ltb-false i (length xs / 2) e) in
+          let z : total (getD rows i []) ≡ 0 = sym (List·getD-map total rows i []) ∙ ap (λ (ys : List ℕ). getD ys i 0) sums ∙ none i
+          (ltb-false i (length xs / 2) e) in
           ap rowOf (empty-line i (ltb-false i (length xs / 2) e) m) ∙ sym (zero-row (getD rows i []) z ∙ ap zeros (wide i m))))

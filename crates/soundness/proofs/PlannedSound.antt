@@ -54,7 +54,8 @@ core-rules pl k p =
     let b : fewMovers tab p ≡ true = le-leb (howMany (movesOn p) tab) 2 (c .few) in
     let d : oneFirst tab p ≡ true =
     by-cases (eqb (howMany (movesOn p) tab) 2)
-    (λ e. or-right (not (eqb (howMany (movesOn p) tab) 2)) (eqb (howMany (lower p) tab) 1) (eq-eqb (howMany (lower p) tab) 1 (c .first (eqb-true (howMany (movesOn p) tab) 2 e))))
+    (λ e. or-right (not (eqb (howMany (movesOn p) tab) 2)) (eqb (howMany (lower p) tab) 1)
+    (eq-eqb (howMany (lower p) tab) 1 (c .first (eqb-true (howMany (movesOn p) tab) 2 e))))
     (λ e. or-left (not (eqb (howMany (movesOn p) tab) 2)) (eqb (howMany (lower p) tab) 1) (ap not e)) in
     let g : guarded tab p ≡ true = le-leb (top (movesOn p) tab) (top (fixedOn p) tab) (c .guarded) in
     and-true (coreWithin (pl .cores) (pl .common) tab p && fewMovers tab p && oneFirst tab p) (guarded tab p)
@@ -102,10 +103,12 @@ module _ (m : ℕ) (xs : List ℕ) (t : Taken m xs) where
   unfolding planFor
   sums i h =
       let k : PlanKept (planFor m l ws xs) = keeps m l xs ws fits in
-      sym (List·getD-map total rows i []) ∙ ap (λ (ys : List ℕ). getD ys i 0) (Rattle.assignment.proofs.Placed.placed m l ws (fits .cores-some) (fits .cores-few) (fits .each) (fits .all) .sums)
+      sym (List·getD-map total rows i []) ∙ ap (λ (ys : List ℕ). getD ys i 0)
+      (Rattle.assignment.proofs.Placed.placed m l ws (fits .cores-some) (fits .cores-few) (fits .each) (fits .all) .sums)
 
   -- the line of a task in use
-  task-rule : (i : ℕ) → i < tasks xs → lineSound (commonOf xs) (line (cost xs i) (period xs i) (getD (padded (weightsOf xs)) i 0) (getD (sharesOf (padded (weightsOf xs)) (rooms m (commonOf xs))) i [])) ≡ true
+  task-rule : (i : ℕ) → i < tasks xs → lineSound (commonOf xs)
+      (line (cost xs i) (period xs i) (getD (padded (weightsOf xs)) i 0) (getD (sharesOf (padded (weightsOf xs)) (rooms m (commonOf xs))) i [])) ≡ true
   task-rule i h =
       let c = cost xs i in
       let p = period xs i in
@@ -126,13 +129,16 @@ module _ (m : ℕ) (xs : List ℕ) (t : Taken m xs) where
   line-rules i h =
       by-cases (ltb i (length xs / 2))
       (λ e. rw e (subst⁻¹ (λ (ln : Line). lineSound l ln ≡ true) (at i (ltb-true i (length xs / 2) e)) (task-rule i (ltb-true i (length xs / 2) e))))
-      (λ e. rw e (subst⁻¹ (λ (ln : Line). lineEmpty ln ≡ true) (empty-line xs ws rows (fits .tasks-few) (fits .weighed) rows-long i (ltb-false i (length xs / 2) e) h) refl))
+      (λ e. rw e (subst⁻¹ (λ (ln : Line). lineEmpty ln ≡ true)
+      (empty-line xs ws rows (fits .tasks-few) (fits .weighed) rows-long i (ltb-false i (length xs / 2) e) h) refl))
 
   -- the periods of the plan are those of the table
-  periods-back : map (λ (ln : Line). ln .period .0) (take (length xs / 2) (paddedLines (linesOf xs (padded (weightsOf xs)) (sharesOf (padded (weightsOf xs)) (rooms m (commonOf xs)))))) ≡ periods xs
+  periods-back : map (λ (ln : Line). ln .period .0)
+      (take (length xs / 2) (paddedLines (linesOf xs (padded (weightsOf xs)) (sharesOf (padded (weightsOf xs)) (rooms m (commonOf xs)))))) ≡ periods xs
   periods-back =
       let f : Line → ℕ = λ (ln : Line). ln .period .0 in
-      let n : length (take (length xs / 2) lns) ≡ length xs / 2 = length-take-le (length xs / 2) lns (omega (arith, long xs ws rows (fits .tasks-few) (fits .weighed) rows-long, fits .tasks-few)) in
+      let n : length (take (length xs / 2) lns) ≡ length xs / 2 = length-take-le (length xs / 2) lns
+      (omega (arith, long xs ws rows (fits .tasks-few) (fits .weighed) rows-long, fits .tasks-few)) in
       ext-getD 0 (map f (take (length xs / 2) lns)) (periods xs) (length-map (take (length xs / 2) lns) f ∙ n ∙ sym (periods-length xs))
       (λ i h.
       let k : i < length xs / 2 = omega (arith, length-map (take (length xs / 2) lns) f, n) in

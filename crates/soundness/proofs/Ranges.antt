@@ -58,7 +58,8 @@ sound-in l ln e = and-left (lineIn ln) (weightIs l ln) (and-left (lineIn ln && w
 -- its weight is C × L / T
 pub sound-weight : (l : ℕ) (ln : Line) → lineSound l ln ≡ true → ln .weight .0 ≡ weight l (ln .cost .0) (ln .period .0)
 sound-weight l ln e =
-    eqb-true (ln .weight .0) (weight l (ln .cost .0) (ln .period .0)) (and-right (lineIn ln) (weightIs l ln) (and-left (lineIn ln && weightIs l ln) (sharesSum ln) e))
+    eqb-true (ln .weight .0) (weight l (ln .cost .0) (ln .period .0))
+    (and-right (lineIn ln) (weightIs l ln) (and-left (lineIn ln && weightIs l ln) (sharesSum ln) e))
 
 -- which is at most L
 pub sound-small : (l : ℕ) (ln : Line) → lineSound l ln ≡ true → ln .weight .0 ≤ l

@@ -74,7 +74,8 @@ module _ (pl : Plan) (long : PlanShaped pl) (s : planSound pl ≡ true) where
       record { shares = f .shares; cost = omega (arith, f .cost, f .period); period = f .period })
       (λ e. by-cases (ltb i tasksLimit)
       (λ m. empty-bounded (getD (pl .lines) i noLine) (rw e at (ruled pl s .lines i (ltb-true i tasksLimit m))))
-      (λ m. rw (List·getD-eq-default (pl .lines) noLine {n = i} (omega (arith, long .lines, ltb-false i tasksLimit m))) (record { shares = refl; cost = omega arith; period = omega arith })))
+      (λ m. rw (List·getD-eq-default (pl .lines) noLine {n = i} (omega (arith, long .lines, ltb-false i tasksLimit m)))
+      (record { shares = refl; cost = omega arith; period = omega arith })))
 
   -- every row has sixteen shares
   rows-wide : (i : ℕ) → i < length tab → length (getD tab i []) ≡ coresLimit
@@ -98,7 +99,8 @@ module _ (pl : Plan) (long : PlanShaped pl) (s : planSound pl ≡ true) where
         record {
           within = leb-true (column p tab) (pl .common) (and-left load only w);
           few = leb-true (howMany (movesOn p) tab) 2 (and-right a b ab);
-          first = λ t. eqb-true (howMany (lower p) tab) 1 (first-says (eqb (howMany (movesOn p) tab) 2) (eqb (howMany (lower p) tab) 1) (and-right (a && b) c abc) (eq-eqb (howMany (movesOn p) tab) 2 t));
+          first = λ t. eqb-true (howMany (lower p) tab) 1
+              (first-says (eqb (howMany (movesOn p) tab) 2) (eqb (howMany (lower p) tab) 1) (and-right (a && b) c abc) (eq-eqb (howMany (movesOn p) tab) 2 t));
           guarded = leb-true (top (movesOn p) tab) (top (fixedOn p) tab) (and-right (a && b && c) d e);
         },
         λ m. eqb-true (column p tab) 0 (rw (le-ltb p (pl .cores) m) at (and-right load only w)),
@@ -109,7 +111,8 @@ module _ (pl : Plan) (long : PlanShaped pl) (s : planSound pl ≡ true) where
   structure = record {
     sums = ext-getD 0 (map total tab) (planWeights pl)
         (length-map tab total ∙ length-map (pl .lines) rowOf ∙ sym (length-map (pl .lines) (λ (ln : Line). ln .weight .0)))
-        (λ i h. List·getD-map total tab i [] ∙ ap total (List·getD-map rowOf (pl .lines) i noLine) ∙ bounded i .shares ∙ sym (List·getD-map (λ (ln : Line). ln .weight .0) (pl .lines) i noLine));
+        (λ i h. List·getD-map total tab i [] ∙ ap total (List·getD-map rowOf (pl .lines) i noLine) ∙ bounded i .shares ∙ sym
+        (List·getD-map (λ (ln : Line). ln .weight .0) (pl .lines) i noLine));
     cores = λ p h. core-kept p (omega (arith, n .cores-few)) .0;
     beyond = λ p h. by-cases (ltb p coresLimit)
         (λ e. core-kept p (ltb-true p coresLimit e) .1 h)

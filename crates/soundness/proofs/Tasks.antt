@@ -96,10 +96,12 @@ pub record Checked (pl : Plan) (g i : ℕ) : Type 0 where
 
 module _ (pl : Plan) (n : Numbers pl) where
   periods-long : length (periodsOf pl) ≡ pl .count
-  periods-long = length-map (take (pl .count) (pl .lines)) (λ (ln : Line). ln .period .0) ∙ length-take-le (pl .count) (pl .lines) (omega (arith, n .count-few, n .long))
+  periods-long = length-map (take (pl .count) (pl .lines)) (λ (ln : Line). ln .period .0) ∙ length-take-le (pl .count) (pl .lines)
+      (omega (arith, n .count-few, n .long))
 
   periods-at : (i : ℕ) → i < pl .count → getD (periodsOf pl) i 0 ≡ periodAt pl i
-  periods-at i h = List·getD-map (λ (ln : Line). ln .period .0) (take (pl .count) (pl .lines)) i noLine ∙ ap (λ (ln : Line). ln .period .0) (getD-take (pl .count) (pl .lines) i noLine h)
+  periods-at i h = List·getD-map (λ (ln : Line). ln .period .0) (take (pl .count) (pl .lines)) i noLine ∙ ap (λ (ln : Line). ln .period .0)
+      (getD-take (pl .count) (pl .lines) i noLine h)
 
   -- the period of task i, and those after it
   periods-from : (i : ℕ) → i < pl .count → drop i (periodsOf pl) ≡ periodAt pl i ∷ drop (i + 1) (periodsOf pl)
@@ -142,14 +144,16 @@ module _ (pl : Plan) (n : Numbers pl) where
       task-breaks e = breaks (task-ok pl i h ∙ e)
 
       -- a sound task more
-      pub task-more : (g′ : ℕ) → lineSound (pl .common) (getD (pl .lines) i noLine) ≡ true → g′ ≡ divisorWith g (pl .common) (periodAt pl i) → (g′ ≡ 0 → ⊥) → Checked pl g′ i
+      pub task-more : (g′ : ℕ) → lineSound (pl .common) (getD (pl .lines) i noLine) ≡ true → g′ ≡ divisorWith g (pl .common) (periodAt pl i) →
+          (g′ ≡ 0 → ⊥) → Checked pl g′ i
       task-more g′ e t z =
           let d = joined g (pl .common) (periodAt pl i) (λ u. z (t ∙ u)) in
           record {
             below = omega (arith, n .count-few);
             lines = holds (task-ok pl i h ∙ e);
             each = λ j a b. by-cases (eqb j i) (λ u. rw (eqb-true j i u) (d .0)) (λ u. k .each j (omega (arith, eqb-false j i u)) b);
-            divisor = t ∙ d .1 ∙ ap (λ (x : ℕ). gcd x (pl .common / periodAt pl i)) (k .divisor) ∙ sym (ap (λ (ts : List ℕ). gcdAll (cofactors (pl .common) ts)) (periods-from i h));
+            divisor = t ∙ d .1 ∙ ap (λ (x : ℕ). gcd x (pl .common / periodAt pl i)) (k .divisor) ∙ sym
+                (ap (λ (ts : List ℕ). gcdAll (cofactors (pl .common) ts)) (periods-from i h));
           }
 
     module _ (h : pl .count ≤ i) where
@@ -170,7 +174,8 @@ module _ (pl : Plan) (n : Numbers pl) where
   pub finish : (g : ℕ) → Checked pl g 0 → eqb g 1 ≡ (allBelow tasksLimit (lineOk pl) && commonIs pl)
   unfolding allBelow
   finish g k =
-      let each : Each (λ t. t ∣ pl .common) (periodsOf pl) = λ i h. rw (periods-at i (omega (arith, periods-long))) (k .each i (omega arith) (omega (arith, periods-long))) in
+      let each : Each (λ t. t ∣ pl .common) (periodsOf pl) = λ i h. rw (periods-at i (omega (arith, periods-long)))
+      (k .each i (omega arith) (omega (arith, periods-long))) in
       same-bool (eqb g 1) (allBelow tasksLimit (lineOk pl) && commonIs pl)
       (λ e. and-true (allBelow tasksLimit (lineOk pl)) (commonIs pl) (k .lines)
       (eq-eqb (pl .common) (common (periodsOf pl)) (cofactor-common (pl .common) (periodsOf pl) each (sym (k .divisor) ∙ eqb-true g 1 e))))

@@ -7,7 +7,7 @@ use units::limits::CORES;
 use units::share::Share;
 use units::ticks::Ticks;
 ghost use Prim.Native.Nat.{_<_};
-ghost use Rattle.spoilt_records.specs.Limits.{lineNumbers, stateNumbers};
+ghost use Rattle.spoilt_records.specs.Inner.{lineNumbers, stateNumbers};
 
 // The numbers of a line: cost, period, weight, a share a core.
 pub const LINE: usize = 19;

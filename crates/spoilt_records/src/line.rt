@@ -8,7 +8,7 @@ use writing::put_byte;
 use writing::put_number;
 use writing::put_signed;
 ghost use Prim.Native.Nat.{_+_, _≤_};
-ghost use Rattle.writing.specs.Limits.{placeLimit};
+ghost use Rattle.writing.specs.Inner.{placeLimit};
 
 // A number and a blank.
 fn put_word(buf: &mut [u8], at: usize, n: u64) -> usize

@@ -4,16 +4,16 @@ use crate::fields::STATE;
 use crate::fields::line_with;
 use crate::fields::state_with;
 use crate::numbers::low_half;
-use crate::numbers::number_at;
 use dispatch::Record;
+use little_endian::number64;
 use planning::Line;
 use planning::Plan;
 use task_state::State;
 use units::limits::TASKS;
 use units::ticks::Ticks;
 ghost use Prim.Native.Nat.{_+_, _*_, _<_, _≤_};
-ghost use Rattle.writing.specs.Limits.{placeLimit};
-ghost use Rattle.spoilt_records.specs.Limits.{lineNumbers, stateNumbers, recordNumbers};
+ghost use Rattle.writing.specs.Inner.{placeLimit};
+ghost use Rattle.spoilt_records.specs.Inner.{lineNumbers, stateNumbers, recordNumbers};
 
 // The numbers in front of the tasks: cores, tasks, common period, clock.
 const HEAD: usize = 4;
@@ -29,7 +29,7 @@ fn line_at(bytes: &[u8], from: usize) -> Line
     let mut line = Line::EMPTY;
     let mut k: usize = 0;
     while k < LINE {
-        let value = number_at(bytes, from + 8 * k);
+        let value = number64(bytes, from + 8 * k);
         line = line_with(line, k, value);
         k += 1;
     }
@@ -43,7 +43,7 @@ fn state_at(bytes: &[u8], from: usize) -> State
     let mut state = State::FRESH;
     let mut k: usize = 0;
     while k < STATE {
-        let value = number_at(bytes, from + 8 * k);
+        let value = number64(bytes, from + 8 * k);
         state = state_with(state, k, value);
         k += 1;
     }
@@ -64,14 +64,14 @@ pub fn record_of(bytes: &[u8]) -> Record {
         i += 1;
     }
     let plan = Plan {
-        cores: number_at(bytes, 0) as usize,
-        count: number_at(bytes, 8) as usize,
-        common: low_half(number_at(bytes, 16)),
+        cores: number64(bytes, 0) as usize,
+        count: number64(bytes, 8) as usize,
+        common: low_half(number64(bytes, 16)),
         lines: lines,
     };
     Record {
         plan: plan,
-        clock: Ticks(number_at(bytes, 24)),
+        clock: Ticks(number64(bytes, 24)),
         states: states,
     }
 }

@@ -18,7 +18,7 @@ use streams::Input;
 use streams::read_input;
 use streams::write_output;
 ghost use Prim.Native.Nat.{_+_, _≤_};
-ghost use Rattle.writing.specs.Limits.{placeLimit};
+ghost use Rattle.writing.specs.Inner.{placeLimit};
 ghost use lib.ListN.{length};
 
 // The bytes of a record.

@@ -1,16 +1,16 @@
 // A question, and its answer.
 use crate::made::NUMBERS;
 use crate::made::record_with;
-use crate::numbers::half_at;
-use crate::numbers::number_at;
 use dispatch::Record;
 use dispatch::call::Answer;
 use dispatch::call::Answered;
 use dispatch::call::Call;
+use little_endian::number32;
+use little_endian::number64;
 use units::refusal::Refusal;
 use units::ticks::Ticks;
 ghost use Prim.Native.Nat.{_+_, _≤_};
-ghost use Rattle.writing.specs.Limits.{placeLimit};
+ghost use Rattle.writing.specs.Inner.{placeLimit};
 
 // The call (0 none, 1 release, 2 finish, 3 look), which number is spoilt (from 1; 0 none) and by what, the call's task or core and time.
 pub struct Question {
@@ -26,11 +26,11 @@ pub fn question_at(bytes: &[u8], at: usize) -> Question
     requires { ⌜ at + 32 ≤ placeLimit ⌝ }
 {
     Question {
-        call: half_at(bytes, at),
-        index: half_at(bytes, at + 4),
-        value: number_at(bytes, at + 8),
-        number: number_at(bytes, at + 16),
-        time: number_at(bytes, at + 24),
+        call: number32(bytes, at) as u64,
+        index: number32(bytes, at + 4) as u64,
+        value: number64(bytes, at + 8),
+        number: number64(bytes, at + 16),
+        time: number64(bytes, at + 24),
     }
 }
 

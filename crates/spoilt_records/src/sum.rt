@@ -8,7 +8,7 @@ use units::limits::RUNS;
 use units::limits::TASKS;
 use units::share::Share;
 ghost use Prim.Native.Nat.{_<_};
-ghost use Rattle.spoilt_records.specs.Limits.{sumLimit};
+ghost use Rattle.spoilt_records.specs.Inner.{sumLimit};
 
 // The checksum stays below this prime.
 const PRIME: u64 = 2_147_483_647;

@@ -4,7 +4,7 @@ use crate::put_byte;
 use crate::put_field;
 use units::refusal::Refusal;
 ghost use Prim.Native.Nat.{_+_, _≤_};
-ghost use Rattle.writing.specs.Limits.{placeLimit};
+ghost use Rattle.writing.specs.Inner.{placeLimit};
 ghost use Rattle.writing.specs.Wrote.{Wrote};
 ghost use Rattle.writing.specs.Refused.{namedText, refusalText};
 

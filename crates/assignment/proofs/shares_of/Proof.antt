@@ -1,3 +1,4 @@
+-- `assignment::shares_of` meets its contract.
 use mathlib.Core.Path.{_∙_}
 use Rattle.units.specs.Units.{nums}
 use Rattle.units.proofs.Units.{nums-long, field-long}

@@ -54,8 +54,11 @@ returns-2 : tie.Need-returns-2
 returns-2 c =
     let p = c .before .before in
     let k = p .before .before .before .before .before in
-    let q = k .before .before .before in
-    (recast (text-read _ _ (is-read _ (q .read-text .ensures .0) (k .cores .given .1) _ (search needs) (q .read-text .ensures .1))) (p .put-table .ensures .0), search needs)
+    let q = k .before .before .before in (
+      recast (text-read _ _ (is-read _ (q .read-text .ensures .0) (k .cores .given .1) _ (search needs) (q .read-text .ensures .1)))
+          (p .put-table .ensures .0),
+      search needs,
+    )
 
 pub answer-spec : {M : Type 1} → statement M
 answer-spec =

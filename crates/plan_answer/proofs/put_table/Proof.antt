@@ -18,8 +18,11 @@ returns c =
     let p = c .before .before in
     let i = p .before .before in
     let l = i .before .before .before .before .before in
-    let s = l .before .before .before .before .args in
-    (refused-wrote (s .cores) (s .table .now) (s .out .now) (l .list-table .ensures .0) (l .list-table .ensures .1) (i .if1 .taken) (p .put-refusal .ensures .0), search needs)
+    let s = l .before .before .before .before .args in (
+      refused-wrote (s .cores) (s .table .now) (s .out .now) (l .list-table .ensures .0) (l .list-table .ensures .1) (i .if1 .taken)
+          (p .put-refusal .ensures .0),
+      search needs,
+    )
 
 same-length-2 : tie.Need-same-length-2
 same-length-2 c = search needs

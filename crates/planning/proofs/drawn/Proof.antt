@@ -1,3 +1,4 @@
+-- `planning::drawn` meets its contract.
 use Rattle.planning.specs.Plan.{linesOf, paddedLines, planFor}
 use Rattle.planning.specs.declared.Line.{Line}
 use Rattle.assignment.specs.Passes.{sharesOf}

@@ -1,3 +1,4 @@
+-- `planning::empty_plan` meets its contract.
 use Rattle.planning.specs.Plan.{emptyPlan, emptyLine}
 use mathlib.Core.Path.{refl}
 use Rattle.planning.proofs.empty_plan.Statement.{statement}

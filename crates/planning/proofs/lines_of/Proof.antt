@@ -1,3 +1,4 @@
+-- `planning::lines_of` meets its contract.
 use Rattle.units.proofs.Units.{nums-length}
 use Rattle.units.specs.Limits.{tasksLimit}
 use Prim.Native.Nat.{_+_, _*_, _-_, _/_, _≤_}

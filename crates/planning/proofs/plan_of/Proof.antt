@@ -1,3 +1,4 @@
+-- `planning::plan_of` meets its contract.
 use Rattle.planning.proofs.Answer.{refused, taken-none, taken-plan, taken-few}
 use Rattle.planning.specs.Plan.{refusedPlan, takenPlan}
 use Rattle.planning.specs.declared.Plan.{Plan}

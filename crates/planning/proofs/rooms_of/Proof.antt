@@ -1,3 +1,4 @@
+-- `planning::rooms_of` meets its contract.
 use lib.ListN.{set}
 use mathlib.Core.List.{List}
 use Rattle.planning.proofs.Filling.{rooms-more}

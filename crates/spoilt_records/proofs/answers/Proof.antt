@@ -1,7 +1,7 @@
--- `trial::answers` meets its contract.
+-- `spoilt_records::answers` meets its contract.
 use Prim.Native.Nat.{_-_, _≤_}
 use borrow.Author.Needs.{needs}
-use Rattle.writing.specs.Limits.{placeLimit}
+use Rattle.writing.specs.Inner.{placeLimit}
 use Rattle.spoilt_records.proofs.answers.Statement.{statement}
 use Rattle.spoilt_records.proofs.answers.Tie as tie
 

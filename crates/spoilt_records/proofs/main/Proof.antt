@@ -1,4 +1,4 @@
--- `trial::main` meets its contract.
+-- `spoilt_records::main` meets its contract.
 use Prim.Native.Nat.{_-_}
 use lib.ListN.{length-take}
 use native.Mathlib.Omega.{arith}

@@ -1,4 +1,4 @@
--- `reading::first_unreadable` meets its contract.
+-- `table_text::first_unreadable` meets its contract.
 use borrow.Author.Needs.{needs}
 use Prim.Native.Nat.{_+_, _-_}
 use mathlib.Core.Path.{sym, _∙_, ap}

@@ -1,4 +1,4 @@
--- `reading::read_table` meets its contract.
+-- `table_text::read_table` meets its contract.
 use Rattle.table_text.proofs.Says.{gives-line, gives-table, table-says, table-line}
 use borrow.Author.Needs.{needs}
 use Rattle.table_text.proofs.read_table.Statement.{statement}

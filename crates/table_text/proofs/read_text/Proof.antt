@@ -1,4 +1,4 @@
--- `reading::read_text` meets its contract.
+-- `table_text::read_text` meets its contract.
 use mathlib.Core.Path.{sym, _∙_}
 use Rattle.table_text.proofs.Says.{gives-line, gives-same, text-long, text-empty, text-first, text-table}
 use native.Mathlib.Omega.{arith}

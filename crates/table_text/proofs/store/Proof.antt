@@ -1,4 +1,4 @@
--- `reading::store` meets its contract.
+-- `table_text::store` meets its contract.
 use mathlib.Core.Path.{sym}
 use lib.Seq.{set-out}
 use borrow.Author.Needs.{needs}

@@ -1,4 +1,4 @@
--- `reading::store_tasks` meets its contract.
+-- `table_text::store_tasks` meets its contract.
 use native.Mathlib.Omega.{arith}
 use borrow.Author.Needs.{needs}
 use Prim.Native.Nat.{_-_}

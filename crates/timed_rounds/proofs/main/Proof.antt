@@ -1,4 +1,4 @@
--- `laps::main` meets its contract.
+-- `timed_rounds::main` meets its contract.
 use Rattle.streams.proofs.Within.{within}
 use borrow.Author.Needs.{needs}
 use Rattle.timed_rounds.proofs.main.Statement.{statement}

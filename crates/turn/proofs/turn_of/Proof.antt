@@ -1,3 +1,4 @@
+-- `turn::turn_of` meets its contract.
 use Prim.Native.Nat.{suc, _≤_, _-_}
 use mathlib.Core.Path.{_≡_, refl, sym, ap, _∙_}
 use native.Mathlib.Numerals.{add-one}

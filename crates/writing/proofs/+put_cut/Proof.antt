@@ -1,4 +1,4 @@
--- `decimal::put_cut` meets its contract: the digits of the tenth, and the last. The number falls.
+-- `writing::put_cut` meets its contract: the digits of the tenth, and the last. The number falls.
 use borrow.Author.Needs.{needs}
 use Prim.Native.Nat.{ℕ, _<_, _/_}
 use mathlib.Core.Path.{sym}

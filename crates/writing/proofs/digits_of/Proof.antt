@@ -1,4 +1,4 @@
--- `decimal::digits_of` meets its contract: the digits counted and those of what is left are those of the number.
+-- `writing::digits_of` meets its contract: the digits counted and those of what is left are those of the number.
 use borrow.Author.Needs.{needs}
 use Prim.Native.Nat.{_+_, _/_}
 use native.Mathlib.Omega.{arith}

@@ -1,4 +1,4 @@
--- `decimal::put_byte` meets its contract: a store past the end of a list changes nothing.
+-- `writing::put_byte` meets its contract: a store past the end of a list changes nothing.
 use borrow.Author.Needs.{needs}
 use mathlib.Core.Path.{sym}
 use lib.Seq.{set-out}

@@ -1,4 +1,4 @@
--- `decimal::put_digits` meets its contract: to store what is left gives the same buffer.
+-- `writing::put_digits` meets its contract: to store what is left gives the same buffer.
 use borrow.Author.Needs.{needs}
 use Prim.Native.Nat.{_+_, _/_, _≤_, _<_}
 use native.Mathlib.Omega.{arith}

@@ -1,4 +1,4 @@
--- `decimal::put_field` meets its contract: one text after another.
+-- `writing::put_field` meets its contract: one text after another.
 use borrow.Author.Needs.{needs}
 use Rattle.writing.proofs.Wrote.{then}
 use Rattle.writing.proofs.put_field.Statement.{statement}

@@ -1,4 +1,4 @@
--- `decimal::put_number` meets its contract: the digits counted are those written.
+-- `writing::put_number` meets its contract: the digits counted are those written.
 use borrow.Author.Needs.{needs}
 use native.Mathlib.Omega.{arith}
 use Rattle.writing.proofs.Decimal.{decimal-length}

@@ -1,4 +1,4 @@
--- `decimal::put_signed` meets its contract: a minus sign and the size, or the size alone.
+-- `writing::put_signed` meets its contract: a minus sign and the size, or the size alone.
 use borrow.Author.Needs.{needs}
 use Rattle.writing.proofs.Signed.{signed-below, signed-above, down, upward}
 use Rattle.writing.proofs.Wrote.{then, recast}

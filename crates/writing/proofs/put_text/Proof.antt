@@ -1,4 +1,4 @@
--- `decimal::put_text` meets its contract: all of the text, or its first i bytes in a loop.
+-- `writing::put_text` meets its contract: all of the text, or its first i bytes in a loop.
 use borrow.Author.Needs.{needs}
 use Prim.Native.Nat.{_≤_, _-_}
 use native.Mathlib.Omega.{arith}

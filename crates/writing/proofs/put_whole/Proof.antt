@@ -1,4 +1,4 @@
--- `decimal::put_whole` meets its contract: the first i bytes of the text are written.
+-- `writing::put_whole` meets its contract: the first i bytes of the text are written.
 use borrow.Author.Needs.{needs}
 use Prim.Native.Nat.{_+_, _≤_, _-_}
 use native.Mathlib.Omega.{arith}

@@ -1,4 +1,4 @@
--- `decimal::size` meets its contract: the way round by one more, so that the lowest number does not overflow.
+-- `writing::size` meets its contract: the way round by one more, so that the lowest number does not overflow.
 use native.Mathlib.Omega.{arith}
 use native.Mathlib.Numerals.{add-one}
 use mathlib.Core.Path.{sym, ap, _∙_}

@@ -1,3 +1,4 @@
+-- `admission::admit::admit` meets its contract.
 use Rattle.units.specs.declared.refusal.Refusal.{Refusal}
 use Rattle.admission.proofs.Admitting.{answered, input-decides}
 use mathlib.Core.Path.{sym, ap, _∙_}

@@ -1,3 +1,4 @@
+-- `admission::admit::admit_tasks` meets its contract.
 use mathlib.Core.List.{List}
 use Rattle.units.specs.Units.{units}
 use Rattle.units.specs.declared.share.Share.{Share}

@@ -1,3 +1,4 @@
+-- `admission::admit::refused` meets its contract.
 use Rattle.admission.specs.Admission.{refusedWith}
 use mathlib.Core.Path.{refl}
 use Rattle.admission.proofs.admit.refused.Statement.{statement}

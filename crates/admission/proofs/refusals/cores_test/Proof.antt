@@ -1,3 +1,4 @@
+-- `admission::refusals::cores_test` meets its contract.
 use borrow.Author.Needs.{needs}
 use Rattle.admission.proofs.refusals.cores_test.Statement.{statement}
 use Rattle.admission.proofs.refusals.cores_test.Tie as tie

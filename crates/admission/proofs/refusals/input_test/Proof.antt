@@ -1,3 +1,4 @@
+-- `admission::refusals::input_test` meets its contract.
 use Rattle.admission.proofs.First.{decides, leaves}
 use Rattle.admission.specs.Refusals.{coresTest, tableTest, tasksTest, inputTest, _orElse_}
 use borrow.Author.Needs.{needs}

@@ -1,3 +1,4 @@
+-- `admission::refusals::task_test` meets its contract.
 use Rattle.admission.proofs.Fault.{unfit, costly, fitting}
 use Rattle.admission.proofs.refusals.task_test.Statement.{statement}
 use Rattle.admission.proofs.refusals.task_test.Tie as tie

@@ -1,3 +1,4 @@
+-- `admission::refusals::tasks_test` meets its contract.
 use Rattle.admission.proofs.Tasks.{tasks-stop, tasks-go, tasks-end}
 use Rattle.admission.specs.Refusals.{tasksTest}
 use borrow.Author.Needs.{needs}

@@ -1,3 +1,4 @@
+-- `admission::weights::weigh` meets its contract.
 use Rattle.admission.proofs.Weighing.{Weighing, start, step, sum-small, finish}
 use Rattle.units.proofs.Units.{nums-set}
 use Rattle.units.specs.Units.{nums}

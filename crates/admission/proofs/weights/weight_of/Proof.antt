@@ -1,3 +1,4 @@
+-- `admission::weights::weight_of` meets its contract.
 use Rattle.admission.proofs.Weighing.{weight-exact, weight-le}
 use native.Mathlib.Omega.{arith}
 use borrow.Author.Needs.{needs}

@@ -1,4 +1,4 @@
--- `rows::first_core` meets its contract: the cores that are passed have no share.
+-- `assignment::rows::first_core` meets its contract: the cores that are passed have no share.
 use Prim.Native.Nat.{_+_, _-_, _≤_}
 use mathlib.Core.Path.{_≡_, ap}
 use native.Mathlib.Omega.{arith}

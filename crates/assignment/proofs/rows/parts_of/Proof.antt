@@ -1,4 +1,4 @@
--- `rows::parts_of` meets its contract: the parts that are passed and those that are left are all.
+-- `assignment::rows::parts_of` meets its contract: the parts that are passed and those that are left are all.
 use Prim.Native.Nat.{_+_, _-_, _≤_}
 use mathlib.Core.Path.{_≡_, ap}
 use mathlib.Core.Logic.{⊎-elim}

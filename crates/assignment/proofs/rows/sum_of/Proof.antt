@@ -1,3 +1,4 @@
+-- `assignment::rows::sum_of` meets its contract.
 use Rattle.assignment.proofs.RowPassed.{sum-more, none-left}
 use Rattle.lists.specs.Lists.{total as sumOf}
 use Rattle.units.specs.Units.{nums}

@@ -1,4 +1,4 @@
--- `standing::stands` meets its contract.
+-- `assignment::standing::stands` meets its contract.
 use native.Mathlib.Omega.{arith}
 use borrow.Author.Tests.{lt-ltb, le-ltb, not-true, not-false, eq-eqb, ne-eqb}
 use Rattle.assignment.proofs.standing.stands.Statement.{statement}

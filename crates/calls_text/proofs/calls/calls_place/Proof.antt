@@ -1,3 +1,4 @@
+-- `calls_text::calls::calls_place` meets its contract.
 use Prim.Native.Nat.{_-_}
 use mathlib.Core.Path.{sym, _∙_}
 use lib.ListN.{length}

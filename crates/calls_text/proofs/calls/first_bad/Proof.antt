@@ -1,3 +1,4 @@
+-- `calls_text::calls::first_bad` meets its contract.
 use Prim.Native.Nat.{_+_, _-_}
 use mathlib.Core.Path.{sym, ap, _∙_}
 use native.Mathlib.Omega.{arith}

@@ -1,3 +1,4 @@
+-- `dispatch::Record::finish` meets its contract.
 use Rattle.dispatch.proofs.Called.{TaskCall, task-call}
 use Rattle.dispatch.proofs.Answers.{finish-first, finish-refused, finish-taken}
 use Rattle.dispatch.specs.Refusals.{taskTests, finishRefusal}

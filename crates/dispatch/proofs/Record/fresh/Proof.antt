@@ -1,3 +1,4 @@
+-- `dispatch::Record::fresh` meets its contract.
 use Rattle.dispatch.specs.Record.{recordOf, freshOf}
 use Rattle.dispatch.specs.declared.Record.{Record}
 use Rattle.planning.specs.declared.Planned.{Planned}
@@ -18,7 +19,8 @@ unfolding freshOf
 returns c =
     let s = c .before .before .before .before .before .args in
     let a = c .before .before .before .plan-of in
-    ap₂ (λ (x : Refusal) (r : Record). record { refusal = x; next = r }) (ap (λ (p : Planned). p .refusal) (a .ensures)) (c .of .ensures ∙ ap (λ (p : Planned). recordOf (p .plan)) (a .ensures))
+    ap₂ (λ (x : Refusal) (r : Record). record { refusal = x; next = r }) (ap (λ (p : Planned). p .refusal) (a .ensures)) (c .of .ensures
+    ∙ ap (λ (p : Planned). recordOf (p .plan)) (a .ensures))
 
 pub fresh-spec : {M : Type 1} → statement M
 fresh-spec = tie.close (tie.spec plan-of-requires of-requires returns)

@@ -1,3 +1,4 @@
+-- `dispatch::Record::look` meets its contract.
 use Rattle.dispatch.proofs.Looking.{best-more, best-task, choice-idle, choice-by}
 use Rattle.dispatch.proofs.Answers.{look-refused, look-taken}
 use Rattle.dispatch.proofs.Called.{CoreCall, core-call}

@@ -1,3 +1,4 @@
+-- `dispatch::Record::of` meets its contract.
 use Rattle.dispatch.specs.Record.{recordOf}
 use Rattle.task_state.specs.State.{freshState}
 use mathlib.Core.Path.{refl}

@@ -1,3 +1,4 @@
+-- `dispatch::Record::release` meets its contract.
 use Rattle.dispatch.proofs.Called.{TaskCall, task-call}
 use Rattle.dispatch.proofs.Answers.{release-first, release-refused, release-taken}
 use Rattle.dispatch.specs.Refusals.{taskTests, releaseRefusal}

@@ -1,3 +1,4 @@
+-- `dispatch::Record::sound` meets its contract.
 use Rattle.dispatch.specs.Sound.{soundOf}
 use Rattle.soundness.specs.Plan.{planSound}
 use Rattle.units.specs.Limits.{clockLimit}

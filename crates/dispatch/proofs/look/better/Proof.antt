@@ -1,3 +1,4 @@
+-- `dispatch::look::better` meets its contract.
 use borrow.Author.Tests.{not-true, not-false}
 use mathlib.Core.Bool.{true}
 use mathlib.Core.Path.{_≡_, sym, _∙_}

@@ -1,3 +1,4 @@
+-- `dispatch::refusals::shared_tests` meets its contract.
 use Rattle.units.specs.Limits.{clockLimit}
 use Rattle.units.specs.Refusals.{pastNo}
 use Rattle.dispatch.specs.Refusals.{sharedTests}

@@ -1,3 +1,4 @@
+-- `dispatch::sound::states_sound` meets its contract.
 use Rattle.soundness.proofs.Facts.{period-small}
 use borrow.Author.Tests.{ltb-true, not-true, not-false}
 use Rattle.dispatch.specs.Sound.{stateOk}

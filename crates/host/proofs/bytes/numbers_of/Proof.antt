@@ -38,8 +38,12 @@ loop-less c = search needs
 loop-again : tie.Need-loop-again Inv-loop μ-loop
 loop-again c =
     let l = c .before .before .loop in
-    let s = c .before .before .before .before in
-    (refl, omega arith, step (s .args .bytes .now) (l .numbers) (l .k) (c .number32 .result) (l .inv .2) (omega arith) (omega (arith, s .pre)) (c .number32 .ensures))
+    let s = c .before .before .before .before in (
+      refl,
+      omega arith,
+      step (s .args .bytes .now) (l .numbers) (l .k) (c .number32 .result) (l .inv .2) (omega arith) (omega (arith, s .pre))
+          (c .number32 .ensures),
+    )
 
 returns : tie.Need-returns Inv-loop μ-loop
 returns c =

@@ -36,8 +36,11 @@ element-copy-out-lower c = omega arith
 
 fixed-on-requires : tie.Need-fixed-on-requires Inv-loop μ-loop
 fixed-on-requires c κs =
-    let s = c .before .before .before .before in
-    (s .pre .3, movers-in-range (s .args .plan) (s .pre .0) (c .before .before .before .loop .p) _ (s .pre .1) (s .args .reaches .now) (omega arith) (s .pre .2))
+    let s = c .before .before .before .before in (
+      s .pre .3,
+      movers-in-range (s .args .plan) (s .pre .0) (c .before .before .before .loop .p) _ (s .pre .1) (s .args .reaches .now) (omega arith)
+          (s .pre .2),
+    )
 
 mul-bounds : tie.Need-mul-bounds Inv-loop μ-loop
 mul-bounds c = omega arith

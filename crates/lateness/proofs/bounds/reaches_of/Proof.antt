@@ -33,8 +33,11 @@ reach-on-requires : tie.Need-reach-on-requires Inv-loop μ-loop
 reach-on-requires c κs =
     let s = c .before .before .before .before .before in
     let at = c .before .before .before .before .loop in
-    let b = reached-le (s .args .plan) (s .pre .0) (at .p) in
-    (reached-long (s .args .plan .common) (s .args .plan .lines) (at .p) (at .inv .0) (at .reaches) (at .inv .1), movers-in-range (s .args .plan) (s .pre .0) (at .p) _ (s .pre .1) (at .reaches) (omega arith) (rw (at .inv .1) (omega arith)))
+    let b = reached-le (s .args .plan) (s .pre .0) (at .p) in (
+      reached-long (s .args .plan .common) (s .args .plan .lines) (at .p) (at .inv .0) (at .reaches) (at .inv .1),
+      movers-in-range (s .args .plan)
+          (s .pre .0) (at .p) _ (s .pre .1) (at .reaches) (omega arith) (rw (at .inv .1) (omega arith)),
+    )
 
 mul-reaches : tie.Need-mul-reaches Inv-loop μ-loop
 mul-reaches c = omega arith

@@ -35,7 +35,8 @@ returns-2 c =
     let p = c .before .before in
     let i = p .before .before .before in
     let s = i .before .before .before in
-    sound (s .args .from) (s .args .buf .now) (sym (i .before .sound .ensures) ∙ not-false (i .before .sound .result) (i .if1 .left)) (p .list-plan .ensures .0) (p .list-plan .ensures .1)
+    sound (s .args .from) (s .args .buf .now) (sym (i .before .sound .ensures) ∙ not-false (i .before .sound .result) (i .if1 .left))
+    (p .list-plan .ensures .0) (p .list-plan .ensures .1)
 
 pub list-spec : {M : Type 1} → statement M
 list-spec = tie.close (tie.spec sound-requires unlisted-requires returns list-plan-requires same-length returns-2)

@@ -29,7 +29,8 @@ returns-2 c =
     let i = p .before .before .before in
     let q = i .before .before .before in
     let s = q .before .before .before .args in
-    table-taken (s .cores) (s .table .now) (s .buf .now) (q .plan-of .result) (q .plan-of .ensures) (i .if1 .left) (p .list-plan .ensures .0) (p .list-plan .ensures .1)
+    table-taken (s .cores) (s .table .now) (s .buf .now) (q .plan-of .result) (q .plan-of .ensures) (i .if1 .left) (p .list-plan .ensures .0)
+    (p .list-plan .ensures .1)
 
 pub list-table-spec : {M : Type 1} → statement M
 list-table-spec =

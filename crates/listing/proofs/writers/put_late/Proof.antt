@@ -34,7 +34,8 @@ returns c =
     let p2 = p3 .before .before .before .before in
     let p1 = p2 .before .before .before .before in
     let s = p1 .before .before .before .before in (
-      recast (ap (λ z. ascii " late " ++ signedOf z ++ lineEnd) (toZ-ofZ w64 (s .args .late) (s .fits .late))) (then (then (p1 .put-text .ensures) (p2 .put-signed .ensures .0)) (p3 .put-byte .ensures)),
+      recast (ap (λ z. ascii " late " ++ signedOf z ++ lineEnd) (toZ-ofZ w64 (s .args .late) (s .fits .late)))
+          (then (then (p1 .put-text .ensures) (p2 .put-signed .ensures .0)) (p3 .put-byte .ensures)),
       search needs,
     )
 

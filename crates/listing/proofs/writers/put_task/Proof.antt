@@ -30,7 +30,8 @@ returns c =
     let p1 = p2 .before .before .before .before in
     let s = p1 .before .before .before .before in
     let a = s .args in (
-      recast (ap (λ z. headText (a .i) (a .line) ++ rowText (rowOf (a .line)) ++ lateText z) (toZ-ofZ w64 (a .late) (s .fits .late))) (then (then (p1 .put-head .ensures .0) (p2 .put-row .ensures .0)) (p3 .put-late .ensures .0)),
+      recast (ap (λ z. headText (a .i) (a .line) ++ rowText (rowOf (a .line)) ++ lateText z) (toZ-ofZ w64 (a .late) (s .fits .late)))
+          (then (then (p1 .put-head .ensures .0) (p2 .put-row .ensures .0)) (p3 .put-late .ensures .0)),
       search needs,
     )
 

@@ -60,7 +60,8 @@ loop-again c =
     let z = getD (a .t4) (l .i) (pos 0) in
     let f : SFits w64 z = search needs in (
       search needs,
-      recast (ap (λ (x : ℤ). tasksText (a .t3) (a .t4) (l .i) ++ taskText (l .i + 1) (getD (a .t3) (l .i) noLine) x) (toZ-ofZ w64 z f) ∙ tasks-more (a .t3) (a .t4) (l .i)) (then (l .inv .1) (p .ensures .0)),
+      recast (ap (λ (x : ℤ). tasksText (a .t3) (a .t4) (l .i) ++ taskText (l .i + 1) (getD (a .t3) (l .i) noLine) x) (toZ-ofZ w64 z f) ∙ tasks-more
+          (a .t3) (a .t4) (l .i)) (then (l .inv .1) (p .ensures .0)),
       search needs,
       p .kept .0 ∙ l .inv .3,
     )

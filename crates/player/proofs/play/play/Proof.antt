@@ -72,8 +72,11 @@ returns-2 c =
     let p = c .before .before in
     let k = p .before .before .before in
     let q = k .before .before .before in
-    let a = q .before .before .before in
-    (recast (table-bad _ (a .before .if1 .left) (a .calls-place .ensures .0) (is-unreadable _ (q .read-text .ensures .0) (k .line .given .1))) (p .put-unreadable2 .ensures .0), search needs)
+    let a = q .before .before .before in (
+      recast (table-bad _ (a .before .if1 .left) (a .calls-place .ensures .0) (is-unreadable _ (q .read-text .ensures .0) (k .line .given .1)))
+          (p .put-unreadable2 .ensures .0),
+      search needs,
+    )
 
 same-length-3 : tie.Need-same-length-3
 same-length-3 c = search needs
@@ -83,8 +86,11 @@ returns-3 c =
     let p = c .before .before in
     let k = p .before .before .before .before .before in
     let q = k .before .before .before in
-    let a = q .before .before .before in
-    (recast (table-good _ (a .before .if1 .left) (a .calls-place .ensures .0) (is-read _ (q .read-text .ensures .0) (k .cores .given .1) _ (search needs) (q .read-text .ensures .1))) (p .play-table .ensures .0), search needs)
+    let a = q .before .before .before in (
+      recast (table-good _ (a .before .if1 .left) (a .calls-place .ensures .0)
+          (is-read _ (q .read-text .ensures .0) (k .cores .given .1) _ (search needs) (q .read-text .ensures .1))) (p .play-table .ensures .0),
+      search needs,
+    )
 
 pub play-spec : {M : Type 1} → statement M
 play-spec =

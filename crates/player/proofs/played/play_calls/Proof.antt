@@ -1,3 +1,4 @@
+-- `player::played::play_calls` meets its contract.
 use Prim.Native.Nat.{_-_}
 use mathlib.Core.Path.{sym, ap, _∙_}
 use native.Mathlib.Omega.{arith}
@@ -51,7 +52,8 @@ loop-again c =
     let p = c .before .before .before in
     let i = p .before .before in
     let n = i .before .before .before in
-    onward (n .before .loop .inv) (n .loop-test .taken) (i .before .before .read-call .ensures) (search needs) (i .before .line-after .ensures) (i .if1 .left) (p .play-line .ensures .0) (p .play-line .ensures .1 .0) (p .play-line .ensures .1 .1)
+    onward (n .before .loop .inv) (n .loop-test .taken) (i .before .before .read-call .ensures) (search needs) (i .before .line-after .ensures)
+    (i .if1 .left) (p .play-line .ensures .0) (p .play-line .ensures .1 .0) (p .play-line .ensures .1 .1)
 
 same-length-2 : tie.Need-same-length-2 Inv-loop μ-loop
 same-length-2 c = kept (c .before .loop .inv .wrote)

@@ -1,4 +1,4 @@
--- `fields::line::byte_at` meets its contract.
+-- `scanning::line::byte_at` meets its contract.
 use mathlib.Core.Path.{sym}
 use lib.ListN.{List·getD-eq-default}
 use borrow.Author.Needs.{needs}

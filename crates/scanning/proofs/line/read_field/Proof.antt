@@ -1,4 +1,4 @@
--- `fields::line::read_field` meets its contract.
+-- `scanning::line::read_field` meets its contract.
 use mathlib.Core.Path.{sym, _∙_}
 use native.Mathlib.Omega.{arith}
 use Rattle.scanning.proofs.Fields.{inside, field-none, field-is, field-other}

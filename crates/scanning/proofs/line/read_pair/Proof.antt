@@ -1,4 +1,4 @@
--- `fields::line::read_pair` meets its contract.
+-- `scanning::line::read_pair` meets its contract.
 use mathlib.Core.Path.{sym, ap, _∙_}
 use Rattle.scanning.specs.Line.{firstAfter, pairAt}
 use borrow.Author.Needs.{needs}

@@ -1,4 +1,4 @@
--- `fields::line::read_second` meets its contract.
+-- `scanning::line::read_second` meets its contract.
 use mathlib.Core.Path.{sym, ap, _∙_}
 use Rattle.scanning.specs.Line.{secondAfter}
 use borrow.Author.Needs.{needs}

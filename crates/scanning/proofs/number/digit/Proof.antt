@@ -1,4 +1,4 @@
--- `fields::number::digit` meets its contract.
+-- `scanning::number::digit` meets its contract.
 use Rattle.scanning.specs.Number.{digitOf}
 use borrow.Author.Tests.{lt-leb, le-leb}
 use borrow.Author.Needs.{needs}

@@ -1,4 +1,4 @@
--- `fields::number::digits` meets its contract.
+-- `scanning::number::digits` meets its contract.
 use native.Mathlib.Omega.{arith}
 use borrow.Author.Needs.{needs}
 use Prim.Native.Nat.{_≤_, _<_, _-_}

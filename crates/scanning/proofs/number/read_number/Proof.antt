@@ -1,4 +1,4 @@
--- `fields::number::read_number` meets its contract.
+-- `scanning::number::read_number` meets its contract.
 use mathlib.Core.Path.{sym, _∙_}
 use Rattle.scanning.proofs.Digits.{number-past, number-none, number-zero, number-more}
 use borrow.Author.Needs.{needs}

@@ -1,4 +1,4 @@
--- `fields::word::read_word` meets its contract.
+-- `scanning::word::read_word` meets its contract.
 use Prim.Native.Nat.{_-_}
 use mathlib.Core.Path.{sym}
 use lib.ListN.{length}

@@ -33,7 +33,8 @@ returns-2 c =
     let tasks = c .before .tasks-sound in
     sym (tasks-break (c .before .before .before .before .args .plan) (sym (tasks .ensures) ∙ not-true (tasks .result) (c .if2 .taken)))
 
-tasks : (c : tie.Else2) → (allBelow tasksLimit (lineOk (c .before .before .before .before .args .plan)) && commonIs (c .before .before .before .before .args .plan)) ≡ true
+tasks : (c : tie.Else2) →
+    (allBelow tasksLimit (lineOk (c .before .before .before .before .args .plan)) && commonIs (c .before .before .before .before .args .plan)) ≡ true
 tasks c = sym (c .before .tasks-sound .ensures) ∙ not-false (c .before .tasks-sound .result) (c .if2 .left)
 
 tallies-of-requires : tie.Need-tallies-of-requires
@@ -50,7 +51,8 @@ returns-3 : tie.Need-returns-3
 returns-3 c =
     let pl = c .before .before .before .before .before .before .before .args .plan in
     c .cores-sound .ensures
-    ∙ sym (cores-decide pl (c .before .tallies-of .result) (ranges (c .before .before .before .before .before)) (tasks (c .before .before .before)) (c .before .tallies-of .ensures))
+    ∙ sym (cores-decide pl (c .before .tallies-of .result) (ranges (c .before .before .before .before .before)) (tasks (c .before .before .before))
+    (c .before .tallies-of .ensures))
 
 pub plan-sound-spec : {M : Type 1} → statement M
 plan-sound-spec =

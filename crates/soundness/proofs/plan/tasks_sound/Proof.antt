@@ -49,10 +49,12 @@ line-sound-requires c κs = tt
 returns : tie.Need-returns Inv-loop μ-loop
 returns c =
     let l = c .before .before .before .before in
-    sym (task-breaks (l .before .before .args .t1) (known (l .before .before)) (l .before .loop .divisor) (l .before .loop .i - 1) (tested l) (c .before .before .if1 .taken)
+    sym (task-breaks (l .before .before .args .t1) (known (l .before .before)) (l .before .loop .divisor) (l .before .loop .i - 1) (tested l)
+    (c .before .before .if1 .taken)
     (sym (c .before .line-sound .ensures) ∙ not-true (c .before .line-sound .result) (c .if2 .taken)))
 
-sound : (c : tie.Else2 Inv-loop μ-loop) → lineSound (c .before .before .before .before .before .before .args .t1 .common) (lineOf (c .before .before .before .before)) ≡ true
+sound : (c : tie.Else2 Inv-loop μ-loop) → lineSound (c .before .before .before .before .before .before .args .t1 .common)
+    (lineOf (c .before .before .before .before)) ≡ true
 sound c = sym (c .before .line-sound .ensures) ∙ not-false (c .before .line-sound .result) (c .if2 .left)
 
 -- a task that is sound is in range
@@ -70,7 +72,8 @@ divisor-with-requires c κs = let r = in-use (c .before) in omega arith
 returns-2 : tie.Need-returns-2 Inv-loop μ-loop
 returns-2 c =
     let l = c .before .before .before .before .before .before .before in
-    sym (period-breaks (l .before .before .args .t1) (known (l .before .before)) (l .before .loop .divisor) (l .before .loop .i - 1) (c .before .before .before .before .before .if1 .taken)
+    sym (period-breaks (l .before .before .args .t1) (known (l .before .before)) (l .before .loop .divisor) (l .before .loop .i - 1)
+    (c .before .before .before .before .before .if1 .taken)
     (sym (c .before .divisor-with .ensures) ∙ c .if3 .taken))
 
 loop-less : tie.Need-loop-less Inv-loop μ-loop
@@ -79,7 +82,8 @@ loop-less c = omega arith
 loop-again : tie.Need-loop-again Inv-loop μ-loop
 loop-again c =
     let l = c .before .before .before .before .before .before .before in
-    task-more (l .before .before .args .t1) (known (l .before .before)) (l .before .loop .divisor) (l .before .loop .i - 1) (tested l) (c .before .before .before .before .before .if1 .taken)
+    task-more (l .before .before .args .t1) (known (l .before .before)) (l .before .loop .divisor) (l .before .loop .i - 1) (tested l)
+    (c .before .before .before .before .before .if1 .taken)
     (c .before .divisor-with .result) (sound (c .before .before .before)) (c .before .divisor-with .ensures) (c .if3 .left)
 
 line-empty-requires : tie.Need-line-empty-requires Inv-loop μ-loop
@@ -88,7 +92,8 @@ line-empty-requires c κs = tt
 returns-3 : tie.Need-returns-3 Inv-loop μ-loop
 returns-3 c =
     let l = c .before .before .before .before in
-    sym (past-breaks (l .before .before .args .t1) (known (l .before .before)) (l .before .loop .divisor) (l .before .loop .i - 1) (tested l) (c .before .before .if1 .left)
+    sym (past-breaks (l .before .before .args .t1) (known (l .before .before)) (l .before .loop .divisor) (l .before .loop .i - 1) (tested l)
+    (c .before .before .if1 .left)
     (sym (c .before .line-empty .ensures) ∙ not-true (c .before .line-empty .result) (c .if4 .taken)))
 
 loop-less-2 : tie.Need-loop-less-2 Inv-loop μ-loop
@@ -97,7 +102,8 @@ loop-less-2 c = omega arith
 loop-again-2 : tie.Need-loop-again-2 Inv-loop μ-loop
 loop-again-2 c =
     let l = c .before .before .before .before in
-    past-more (l .before .before .args .t1) (known (l .before .before)) (l .before .loop .divisor) (l .before .loop .i - 1) (tested l) (c .before .before .if1 .left)
+    past-more (l .before .before .args .t1) (known (l .before .before)) (l .before .loop .divisor) (l .before .loop .i - 1) (tested l)
+    (c .before .before .if1 .left)
     (omega (arith, l .before .loop .inv .below)) (sym (c .before .line-empty .ensures) ∙ not-false (c .before .line-empty .result) (c .if4 .left))
 
 returns-4 : tie.Need-returns-4 Inv-loop μ-loop

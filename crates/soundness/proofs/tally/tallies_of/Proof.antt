@@ -1,4 +1,4 @@
--- `tally::tallies_of` meets its contract: tasks are counted from the last to the first, and of each the cores from its first on.
+-- `soundness::tally::tallies_of` meets its contract: tasks are counted from the last to the first, and of each the cores from its first on.
 use Prim.Native.Nat.{ℕ, _<_, _+_, _-_, _≤_}
 use mathlib.Core.Path.{_≡_}
 use mathlib.Core.Logic.{⊎-elim}

@@ -1,4 +1,4 @@
--- `trial::made::record_of` meets its contract.
+-- `spoilt_records::made::record_of` meets its contract.
 use Prim.Native.Nat.{_-_, _≤_}
 use Rattle.units.specs.Limits.{tasksLimit}
 use borrow.Author.Needs.{needs}
@@ -56,20 +56,20 @@ loop-less c = search needs
 loop-again : tie.Need-loop-again Inv-loop μ-loop
 loop-again c = search needs
 
-number-at-requires : tie.Need-number-at-requires Inv-loop μ-loop
-number-at-requires c κs = search needs
+number64-requires : tie.Need-number64-requires Inv-loop μ-loop
+number64-requires c κs = search needs
 
-number-at-requires-2 : tie.Need-number-at-requires-2 Inv-loop μ-loop
-number-at-requires-2 c κs = search needs
+number64-requires-2 : tie.Need-number64-requires-2 Inv-loop μ-loop
+number64-requires-2 c κs = search needs
 
-number-at-requires-3 : tie.Need-number-at-requires-3 Inv-loop μ-loop
-number-at-requires-3 c κs = search needs
+number64-requires-3 : tie.Need-number64-requires-3 Inv-loop μ-loop
+number64-requires-3 c κs = search needs
 
 low-half-requires : tie.Need-low-half-requires Inv-loop μ-loop
 low-half-requires c κs = search needs
 
-number-at-requires-4 : tie.Need-number-at-requires-4 Inv-loop μ-loop
-number-at-requires-4 c κs = search needs
+number64-requires-4 : tie.Need-number64-requires-4 Inv-loop μ-loop
+number64-requires-4 c κs = search needs
 
 returns : tie.Need-returns Inv-loop μ-loop
 returns c = search needs
@@ -95,9 +95,9 @@ record-of-spec =
     add-i
     loop-less
     loop-again
-    number-at-requires
-    number-at-requires-2
-    number-at-requires-3
+    number64-requires
+    number64-requires-2
+    number64-requires-3
     low-half-requires
-    number-at-requires-4
+    number64-requires-4
     returns)

@@ -1,7 +1,7 @@
--- `trial::sum::runs_sum` meets its contract.
+-- `spoilt_records::sum::runs_sum` meets its contract.
 use Prim.Native.Nat.{_-_, _<_, _≤_}
 use Rattle.units.specs.Limits.{runsLimit}
-use Rattle.spoilt_records.specs.Limits.{sumLimit}
+use Rattle.spoilt_records.specs.Inner.{sumLimit}
 use borrow.Author.Needs.{needs}
 use Rattle.spoilt_records.proofs.sum.runs_sum.Statement.{statement}
 use Rattle.spoilt_records.proofs.sum.runs_sum.Tie as tie

@@ -1,3 +1,4 @@
+-- `task_state::State::finish_tests` meets its contract.
 use borrow.Author.Tests.{eq-eqb, ne-eqb}
 use Rattle.task_state.proofs.State.finish_tests.Statement.{statement}
 use Rattle.task_state.proofs.State.finish_tests.Tie as tie

@@ -1,3 +1,4 @@
+-- `task_state::State::ok` meets its contract.
 use mathlib.Core.Path.{_≡_, sym, _∙_}
 use mathlib.Core.Bool.{true}
 use borrow.Author.Needs.{needs}

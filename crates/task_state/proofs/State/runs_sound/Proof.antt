@@ -1,3 +1,4 @@
+-- `task_state::State::runs_sound` meets its contract.
 use Prim.Native.Nat.{ℕ, _-_, _≤_, _<_}
 use mathlib.Core.Path.{_≡_, sym, _∙_}
 use mathlib.Core.Logic.{⊎-elim}
@@ -94,7 +95,8 @@ returns-3 : tie.Need-returns-3 Inv-loop μ-loop
 returns-3 c =
     let e = c .before .before .before .before in
     let r = e .before .before .before in
-    breaks r (unfinished (lineOf r) (stateOf r) (at r) (e .before .before .if2 .taken) (on-core e) ∙ sym (c .before .sound .ensures) ∙ not-true _ (c .if4 .taken))
+    breaks r (unfinished (lineOf r) (stateOf r) (at r) (e .before .before .if2 .taken) (on-core e) ∙ sym (c .before .sound .ensures) ∙ not-true _
+    (c .if4 .taken))
 
 empty-requires : tie.Need-empty-requires Inv-loop μ-loop
 empty-requires c κs = search needs
@@ -115,7 +117,8 @@ loop-again c =
     let r = c .before in
     let keeps : runRule (lineOf r) (stateOf r) (at r) ≡ true =
     ⊎-elim
-    (λ t. unfinished (lineOf r) (stateOf r) (at r) (t .0 .taken) (sym (t .1 .ensures) ∙ not-false _ (t .2 .left)) ∙ sym (t .5 .ensures) ∙ not-false _ (t .6 .left))
+    (λ t. unfinished (lineOf r) (stateOf r) (at r) (t .0 .taken) (sym (t .1 .ensures) ∙ not-false _ (t .2 .left)) ∙ sym (t .5 .ensures) ∙ not-false _
+    (t .6 .left))
     (λ t. past (lineOf r) (stateOf r) (at r) (t .0 .left) ∙ sym (t .1 .ensures) ∙ not-false _ (t .2 .left))
     (c .if2 .came) in
     (omega arith, all-more _ _ (r .before .before .loop .inv .1) keeps)

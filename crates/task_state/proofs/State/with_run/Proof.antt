@@ -1,3 +1,4 @@
+-- `task_state::State::with_run` meets its contract.
 use borrow.Author.Needs.{needs}
 use Rattle.task_state.specs.Runs.{withRun, takenRun}
 use Rattle.task_state.proofs.State.with_run.Statement.{statement}

@@ -1,3 +1,4 @@
+-- `task_state::rules::sums_to` meets its contract.
 use Prim.Native.Nat.{_*_, _-_, _≤_}
 use mathlib.Core.Path.{_≡_}
 use native.Mathlib.Numerals.{add-one}

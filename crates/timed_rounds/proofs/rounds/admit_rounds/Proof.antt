@@ -1,4 +1,4 @@
--- `laps::rounds::admit_rounds` meets its contract.
+-- `timed_rounds::rounds::admit_rounds` meets its contract.
 use Prim.Native.Nat.{_-_, _≤_}
 use borrow.Author.Needs.{needs}
 use Rattle.timed_rounds.proofs.rounds.admit_rounds.Statement.{statement}

@@ -1,4 +1,4 @@
--- `laps::rounds::calls_rounds` meets its contract.
+-- `timed_rounds::rounds::calls_rounds` meets its contract.
 use Prim.Native.Nat.{_-_, _≤_}
 use borrow.Author.Needs.{needs}
 use Rattle.timed_rounds.proofs.rounds.calls_rounds.Statement.{statement}

@@ -1,4 +1,4 @@
--- `laps::rounds::listing_rounds` meets its contract.
+-- `timed_rounds::rounds::listing_rounds` meets its contract.
 use mathlib.Core.Path.{_≡_}
 use lib.ListN.{length}
 use Prim.Native.Nat.{_-_, _≤_}

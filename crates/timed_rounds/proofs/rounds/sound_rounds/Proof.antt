@@ -1,4 +1,4 @@
--- `laps::rounds::sound_rounds` meets its contract.
+-- `timed_rounds::rounds::sound_rounds` meets its contract.
 use Prim.Native.Nat.{_-_, _≤_}
 use borrow.Author.Needs.{needs}
 use Rattle.timed_rounds.proofs.rounds.sound_rounds.Statement.{statement}

@@ -1,4 +1,4 @@
--- `laps::script::lap_all` meets its contract.
+-- `timed_rounds::script::lap_all` meets its contract.
 use Prim.Native.Nat.{_-_, _≤_}
 use borrow.Author.Needs.{needs}
 use Rattle.timed_rounds.proofs.script.lap_all.Statement.{statement}

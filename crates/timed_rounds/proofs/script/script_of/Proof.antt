@@ -1,4 +1,4 @@
--- `laps::script::script_of` meets its contract.
+-- `timed_rounds::script::script_of` meets its contract.
 use Prim.Native.Nat.{_-_, _≤_}
 use borrow.Author.Needs.{needs}
 use Rattle.timed_rounds.proofs.script.script_of.Statement.{statement}

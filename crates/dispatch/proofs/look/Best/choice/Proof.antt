@@ -1,3 +1,4 @@
+-- `dispatch::look::Best::choice` meets its contract.
 use borrow.Author.Needs.{needs}
 use borrow.Author.Tests.{eq-eqb, ne-eqb}
 use native.Mathlib.Omega.{arith}

@@ -1,4 +1,4 @@
--- `tally::Tally::with_task` meets its contract: the task's standing decides.
+-- `soundness::tally::Tally::with_task` meets its contract: the task's standing decides.
 use borrow.Author.Needs.{needs}
 use Rattle.soundness.proofs.tally.Tally.with_task.Statement.{statement}
 use Rattle.soundness.proofs.tally.Tally.with_task.Tie as tie

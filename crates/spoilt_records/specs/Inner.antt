@@ -1,4 +1,4 @@
--- How many numbers the input has of each thing, and what the checksum stays below.
+-- For the contracts of private functions alone: how many numbers the input has of each thing, and what the checksum stays below.
 use Prim.Native.Nat.{ℕ}
 
 -- a task's line
