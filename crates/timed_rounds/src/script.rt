@@ -24,8 +24,8 @@ pub struct Script {
     pub count: usize,
 }
 
-// A record after a call, and a sum of what it answered.
-pub struct Answered {
+// The record after a script, and a sum of what its calls answered.
+pub struct Lap {
     pub next: Record,
     pub sum: u64,
 }
@@ -105,7 +105,7 @@ fn few(count: usize) -> usize
 }
 
 // All calls of a script. Of the choices the last alone goes into the sum: a match on each would copy the record once more.
-pub fn lap_all(first: Record, script: Script) -> Answered {
+pub fn lap_all(first: Record, script: Script) -> Lap {
     let steps = script.steps;
     let count = few(script.count);
     let mut held = first;
@@ -138,7 +138,7 @@ pub fn lap_all(first: Record, script: Script) -> Answered {
         }
         k += 1;
     }
-    Answered {
+    Lap {
         next: held,
         sum: add(sum, chosen(last)),
     }
