@@ -14,7 +14,7 @@ use Rattle.lists.proofs.Tests.{by-cases}
 use Rattle.lists.proofs.Lists.{parts-le}
 use Rattle.lists.proofs.Rows.{top-at}
 use Rattle.assignment.specs.Movers.{movesOn, fixedOn}
-use Rattle.assignment.proofs.Properties.{row, weight}
+use Rattle.assignment.specs.Properties.{row, weight}
 use Rattle.assignment.proofs.Words.{moves-says}
 
 -- the heaviest row that passes a test is one of them

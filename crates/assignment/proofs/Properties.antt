@@ -8,37 +8,17 @@ use native.Mathlib.Omega.{arith}
 use lib.Dec.{ltb}
 use lib.ListN.{length, getD, List·getD-map, List·getD-eq-default}
 use borrow.Author.Tests.{ltb-true, ltb-false, lt-ltb}
-use Rattle.lists.specs.Lists.{total, parts, val, seek}
-use Rattle.lists.specs.Rows.{fold, howMany, column, columnOf, top}
+use Rattle.lists.specs.Lists.{total, parts, seek}
+use Rattle.lists.specs.Rows.{howMany, column, columnOf, top}
 use Rattle.lists.proofs.Tests.{by-cases, and-true}
 use Rattle.lists.proofs.Lists.{getD-le-sum, parts-le}
 use Rattle.lists.proofs.Parts.{first-has}
 use Rattle.lists.proofs.Rows.{column-at, columnOf-at, top-at, top-sum, seek-at, seek-only}
 use Rattle.assignment.specs.Movers.{has, moves, firstCore, fixedOn, movesOn, lower, upper}
+use Rattle.assignment.specs.Properties.{row, weight, share, fixedLoad, Halves}
 use Rattle.assignment.specs.Structure.{CoreKept, Structure}
 use Rattle.assignment.proofs.Words.{moves-says, upper-moves, lower-moves, upper-says, lower-says}
 use Rattle.assignment.proofs.Loads.{count-movers, column-movers, column-all}
-
--- task i's row
-abbrev pub row : List (List ℕ) → ℕ → List ℕ
-row tab i = getD tab i []
-
--- its weight
-abbrev pub weight : List (List ℕ) → ℕ → ℕ
-weight tab i = total (row tab i)
-
--- its share on core p
-abbrev pub share : List (List ℕ) → ℕ → ℕ → ℕ
-share tab i p = getD (row tab i) p 0
-
--- the weights of the fixed tasks of core p, together
-abbrev pub fixedLoad : ℕ → List (List ℕ) → ℕ
-fixedLoad p tab = fold _+_ (λ r. val (fixedOn p r) (total r)) tab
-
--- the shares of the movers that a search finds on core p (0 where it finds none)
-pub record Halves (l p : ℕ) (tab : List (List ℕ)) : Type 0 where
-  pub one : 2 * share tab (seek (upper p) tab) p ≤ l
-  pub two : 3 * (share tab (seek (upper p) tab) p + share tab (seek (lower p) tab) p) ≤ 2 * l
 
 -- a core that has no share has no mover
 none-moves : (p : ℕ) (tab : List (List ℕ)) → column p tab ≡ 0 → (howMany (movesOn p) tab ≡ 0) × (top (movesOn p) tab ≡ 0)

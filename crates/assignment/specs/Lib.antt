@@ -4,3 +4,4 @@ pub mod Movers
 pub mod Standing
 pub mod Structure
 pub mod Inner
+pub mod Properties

@@ -36,12 +36,12 @@ fn roomiest(room: Row) -> usize
 }
 
 // What a task of pass two is given of each core, and what each core has left.
-struct Given {
+struct Handed {
     row: Row,
     room: Row,
 }
 
-fn cut(weight: Share, room: Row) -> Given
+fn cut(weight: Share, room: Row) -> Handed
     ensures { λ r. ⌜ (nums (r .row .shares) ≡ cutOf (weight .0) (nums (room .shares))) × (nums (r .room .shares) ≡ restOf (weight .0) (nums (room .shares))) ⌝ }
 {
     let mut row = [Share::EMPTY; CORES];
@@ -55,7 +55,7 @@ fn cut(weight: Share, room: Row) -> Given
         need = need.rest(have);
         p += 1;
     }
-    Given {
+    Handed {
         row: Row { shares: row },
         room: Row { shares: left },
     }

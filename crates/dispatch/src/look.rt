@@ -11,7 +11,7 @@ ghost use mathlib.Core.Bool.{true};
 ghost use Prim.Native.Nat.{_+_, _<_, _≤_};
 ghost use Rattle.units.specs.Limits.{coresLimit, periodLimit, clockLimit};
 ghost use Rattle.task_state.specs.Key.{deadlineOf, waits};
-ghost use Rattle.dispatch.specs.Look.{betterTask as betterOf, choiceBy, lookOf};
+ghost use Rattle.dispatch.specs.Look.{betterTask, choiceBy, lookOf};
 
 // Where a mover stands on a core: lower on its first core, upper on any other.
 pub enum Side {
@@ -40,9 +40,9 @@ pub struct Looked {
 }
 
 // The better of the best task so far and another, from 1.
-fn better(best: Best, task: usize, line: Line, state: State, core: usize) -> Best
+fn better_task(best: Best, task: usize, line: Line, state: State, core: usize) -> Best
     requires { ⌜ (0 < core) × (core ≤ coresLimit) × (waits state core ≡ true → deadlineOf state ≤ clockLimit + periodLimit) ⌝ }
-    ensures { λ r. ⌜ r ≡ betterOf best task line state core ⌝ }
+    ensures { λ r. ⌜ r ≡ betterTask best task line state core ⌝ }
 {
     if !state.waits(core) {
         return best;
@@ -94,7 +94,7 @@ impl Record {
                 let line = lines[i];
                 let state = self.states[i];
                 i += 1;
-                best = better(best, i, line, state, core);
+                best = better_task(best, i, line, state, core);
             }
             if 0 < best.task {
                 let at = best.task - 1;

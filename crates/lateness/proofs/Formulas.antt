@@ -21,7 +21,7 @@ use Rattle.planning.specs.declared.Line.{Line}
 use Rattle.planning.specs.declared.Plan.{Plan}
 use Rattle.planning.specs.Plan.{emptyLine, noLine, rowOf, sharesTable}
 use Rattle.planning.specs.Kept.{PlanKept}
-use Rattle.lateness.specs.Lateness.{first, upperOn, lowerOn, reachOf, reachOn, reaches, late}
+use Rattle.lateness.specs.Lateness.{first, upperOn, lowerOn, reachOf, reachOn, reaches, late, planReaches}
 use Rattle.lateness.proofs.Front.{first-there, lower-at}
 use Rattle.lateness.proofs.Reached.{reaches-length}
 use Rattle.lateness.proofs.Words.{reach-alone}
@@ -87,10 +87,6 @@ line-there : (lns : List Line) (i : ℕ) → moves (rowOf (getD lns i noLine)) �
 line-there [] i e = absurd (omega (arith, ltb-true 1 0 e))
 line-there (ln ∷ lns) zero e = omega arith
 line-there (ln ∷ lns) (suc i) e = omega (arith, line-there lns i e)
-
--- the reaches of a plan's movers
-abbrev pub planReaches : Plan → List ℕ
-planReaches pl = reaches (pl .common) (pl .lines) coresLimit
 
 module _ (pl : Plan) (k : PlanKept pl) where
   -- a mover's first core is one of the cores, and there it is the lower mover

@@ -14,7 +14,7 @@ use Rattle.lists.proofs.Tests.{by-cases}
 use Rattle.lists.proofs.Lists.{zeros-at}
 use Rattle.assignment.specs.Movers.{movesOn, firstCore, upper, lower}
 use Rattle.assignment.proofs.Loads.{count-movers}
-use Rattle.assignment.proofs.Properties.{share}
+use Rattle.assignment.specs.Properties.{share}
 use Rattle.planning.specs.declared.Line.{Line}
 use Rattle.planning.specs.Plan.{emptyLine, noLine, rowOf}
 use Rattle.lateness.specs.Lateness.{first, upperOn, lowerOn, overMovers, shareOn, reachOf, push}

@@ -53,6 +53,10 @@ unfoldable pub reaches : ℕ → List Line → ℕ → List ℕ
 reaches l lns zero = []
 reaches l lns (suc p) = reaches l lns p ++ (reachOn l (reaches l lns p) p (upperOn p lns) (lowerOn p lns) ∷ [])
 
+-- the reaches of a plan's movers
+abbrev pub planReaches : Plan → List ℕ
+planReaches pl = reaches (pl .common) (pl .lines) coresLimit
+
 -- a fixed task's bound: the sum over its core's movers of s × (D + 2T) + L × 2C, divided by L less their shares, rounded up
 unfoldable pub fixedLate : ℕ → List ℕ → List Line → ℕ → ℕ
 fixedLate l rs lns p =

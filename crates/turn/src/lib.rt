@@ -7,7 +7,7 @@ ghost use mathlib.Core.Path.{_≡_};
 ghost use Rattle.units.specs.Limits.{coresLimit};
 ghost use Rattle.units.specs.Units.{nums};
 ghost use Rattle.lists.specs.Lists.{total};
-ghost use Rattle.turn.specs.Turn.{betterCore as betterOf, counted as countedOf, turnOf};
+ghost use Rattle.turn.specs.Turn.{betterCore, counted as countedOf, turnOf};
 ghost use Rattle.turn.specs.Inner.{Turnable};
 
 // The best core so far, from 1 (0: none), and the place by which its next run is due.
@@ -24,8 +24,8 @@ pub struct Turn {
 }
 
 // The best core when core j, of this share and count, is looked at too.
-fn better(best: Best, j: usize, share: u32, count: u32, weight: u32, place: u32) -> Best
-    ensures { λ r. ⌜ r ≡ betterOf weight place best j share count ⌝ }
+fn better_core(best: Best, j: usize, share: u32, count: u32, weight: u32, place: u32) -> Best
+    ensures { λ r. ⌜ r ≡ betterCore weight place best j share count ⌝ }
 {
     let w = weight as u64;
     let s = share as u64;
@@ -52,7 +52,7 @@ pub fn turn_of(weight: Share, place: u32, shares: [Share; CORES], counts: [u32; 
     while j < CORES {
         let s = shares[j];
         let n = counts[j];
-        best = better(best, j + 1, s.0, n, w, place);
+        best = better_core(best, j + 1, s.0, n, w, place);
         j += 1;
     }
     counted(best.core, counts, w, place)

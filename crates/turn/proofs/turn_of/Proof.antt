@@ -41,11 +41,11 @@ mul-n c = search needs
 array-read-n : tie.Need-array-read-n Inv-loop μ-loop
 array-read-n c = search needs
 
-add-better : tie.Need-add-better Inv-loop μ-loop
-add-better c = search needs
+add-better-core : tie.Need-add-better-core Inv-loop μ-loop
+add-better-core c = search needs
 
-better-requires : tie.Need-better-requires Inv-loop μ-loop
-better-requires c κs = search needs
+better-core-requires : tie.Need-better-core-requires Inv-loop μ-loop
+better-core-requires c κs = search needs
 
 add-j : tie.Need-add-j Inv-loop μ-loop
 add-j c = search needs
@@ -60,7 +60,7 @@ loop-again c =
       omega arith,
       at .inv .1,
       at .inv .2,
-      rw (c .better .ensures, ← (nums-at (a .t3) (at .j)), add-one (at .j))
+      rw (c .better-core .ensures, ← (nums-at (a .t3) (at .j)), add-one (at .j))
           (sym (search-next (a .weight .0) (a .place) (at .j) (at .best) (nums (a .t3)) (a .t4) (omega arith) (omega arith)) ∙ at .inv .3),
     )
 
@@ -95,8 +95,8 @@ turn-of-spec =
     array-copy-out-s
     mul-n
     array-read-n
-    add-better
-    better-requires
+    add-better-core
+    better-core-requires
     add-j
     loop-less
     loop-again

@@ -61,8 +61,8 @@ element-copy-out-state c = omega arith
 add-i : tie.Need-add-i Inv-loop μ-loop
 add-i c = omega arith
 
-better-requires : tie.Need-better-requires Inv-loop μ-loop
-better-requires c κs =
+better-task-requires : tie.Need-better-task-requires Inv-loop μ-loop
+better-task-requires c κs =
     let at = c .before .before .before in
     let k = known (passed at) in
     (k .from, k .few, k .due (at .loop .i) (omega arith))
@@ -74,7 +74,7 @@ loop-again : tie.Need-loop-again Inv-loop μ-loop
 loop-again c =
     let at = c .before .before .before .before in
     let s = start (passed at) .args in
-    (omega arith, best-more (s .t1) (s .core) (at .loop .i) (at .loop .inv .1) (c .better .ensures))
+    (omega arith, best-more (s .t1) (s .core) (at .loop .i) (at .loop .inv .1) (c .better-task .ensures))
 
 -- the best of all tasks
 found : (c : tie.After-loop Inv-loop μ-loop) → let s = start (passed (c .before)) .args in c .before .loop .best ≡ bestOf (s .t1) (s .core) tasksLimit
@@ -133,7 +133,7 @@ look-spec =
     mul-state
     element-copy-out-state
     add-i
-    better-requires
+    better-task-requires
     loop-less
     loop-again
     sub-at

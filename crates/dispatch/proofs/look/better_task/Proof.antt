@@ -1,11 +1,11 @@
--- `dispatch::look::better` meets its contract.
+-- `dispatch::look::better_task` meets its contract.
 use borrow.Author.Tests.{not-true, not-false}
 use mathlib.Core.Bool.{true}
 use mathlib.Core.Path.{_≡_, sym, _∙_}
 use Rattle.task_state.specs.Key.{waits}
 use borrow.Author.Needs.{needs}
-use Rattle.dispatch.proofs.look.better.Statement.{statement}
-use Rattle.dispatch.proofs.look.better.Tie as tie
+use Rattle.dispatch.proofs.look.better_task.Statement.{statement}
+use Rattle.dispatch.proofs.look.better_task.Tie as tie
 
 waits-requires : tie.Need-waits-requires
 waits-requires c κs = search needs
@@ -29,5 +29,5 @@ returns-2 c = let k = c .before .before .before in rw (waiting (k .before), ← 
 returns-3 : tie.Need-returns-3
 returns-3 c = let k = c .before .before .before in rw (waiting (k .before), ← k .key .ensures, c .if2 .left)
 
-pub better-spec : {M : Type 1} → statement M
-better-spec = tie.close (tie.spec waits-requires returns key-requires returns-2 returns-3)
+pub better-task-spec : {M : Type 1} → statement M
+better-task-spec = tie.close (tie.spec waits-requires returns key-requires returns-2 returns-3)

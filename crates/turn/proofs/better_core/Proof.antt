@@ -1,4 +1,4 @@
--- `turn::better` meets its contract.
+-- `turn::better_core` meets its contract.
 use Prim.Native.Nat.{ℕ, _+_, _*_, _≤_}
 use mathlib.Core.Path.{_≡_}
 use mathlib.Core.Bool.{true}
@@ -7,8 +7,8 @@ use native.Mathlib.Omega.{arith}
 use borrow.Author.Needs.{needs}
 use borrow.Author.Tests.{lt-ltb, le-ltb, eq-eqb, ne-eqb}
 use Rattle.turn.specs.Turn.{isOpen}
-use Rattle.turn.proofs.better.Statement.{statement}
-use Rattle.turn.proofs.better.Tie as tie
+use Rattle.turn.proofs.better_core.Statement.{statement}
+use Rattle.turn.proofs.better_core.Tie as tie
 
 -- a 32-bit number times another, or times one more than another, is of 64 bits
 room : (a b : ℕ) → a ≤ 4294967296 → b ≤ 4294967295 → a * b ≤ 18446744069414584320
@@ -68,8 +68,8 @@ returns-4 c =
           (omega arith),
     )
 
-pub better-spec : {M : Type 1} → statement M
-better-spec =
+pub better-core-spec : {M : Type 1} → statement M
+better-core-spec =
     tie.close
     (tie.spec
     add-if1
