@@ -1,4 +1,4 @@
--- What the properties of source document 003 and the halves of document 01 speak of: a table of shares, a row for each task. Tasks and cores are counted from 0.
+-- What the properties of document 003 and the halves of document 01 speak of, in a table of shares with a row for each task. Tasks and cores are from 0.
 use Prim.Native.Nat.{ℕ, _+_, _*_, _≤_}
 use mathlib.Core.List.{List, []}
 use lib.ListN.{getD}
