@@ -14,7 +14,7 @@ use Rattle.lists.proofs.Tests.{by-cases}
 use Rattle.lists.proofs.Lists.{parts-le}
 use Rattle.lists.proofs.Rows.{top-at}
 use Rattle.assignment.specs.Movers.{movesOn, fixedOn}
-use Rattle.assignment.specs.Properties.{row, weight}
+use Rattle.assignment.specs.Properties.{rowAt, rowWeight}
 use Rattle.assignment.proofs.Words.{moves-says}
 
 -- the heaviest row that passes a test is one of them
@@ -37,12 +37,12 @@ top-has f (r ∷ tab) h =
 -- the two say the same
 pub guarded-exactly : (p : ℕ) (tab : List (List ℕ))
     → (top (movesOn p) tab ≤ top (fixedOn p) tab)
-    ↔ ((i : ℕ) → movesOn p (row tab i) ≡ true → (k : ℕ) × (fixedOn p (row tab k) ≡ true) × (weight tab i ≤ weight tab k))
+    ↔ ((i : ℕ) → movesOn p (rowAt tab i) ≡ true → (k : ℕ) × (fixedOn p (rowAt tab k) ≡ true) × (rowWeight tab i ≤ rowWeight tab k))
 guarded-exactly p tab = (
   λ h i e.
       let a = top-at (movesOn p) tab i e in
-      let some = moves-says p (row tab i) e in
-      let b = top-has (fixedOn p) tab (omega (arith, parts-le (row tab i))) in
+      let some = moves-says p (rowAt tab i) e in
+      let b = top-has (fixedOn p) tab (omega (arith, parts-le (rowAt tab i))) in
       (b .0, b .1, omega (arith, b .2)),
   λ g.
       by-cases (ltb 0 (top (movesOn p) tab))

@@ -18,7 +18,7 @@ filled xs = xs ++ zeros (2 * tasksLimit - length xs)
 abbrev pub unread : List ℕ → Bool
 unread bytes = not (eqb (length bytes % 4) 0) || noTable (length bytes / 4)
 
--- the numbers that are held: none of those
+-- the numbers that are held: of such bytes none
 unfoldable pub heldOf : List ℕ → List ℕ
 heldOf bytes = cond (unread bytes) [] (numbersOf bytes)
 

@@ -14,7 +14,7 @@ use Rattle.lists.proofs.Tests.{by-cases}
 use Rattle.lists.proofs.Lists.{zeros-at}
 use Rattle.assignment.specs.Movers.{movesOn, firstCore, upper, lower}
 use Rattle.assignment.proofs.Loads.{count-movers}
-use Rattle.assignment.specs.Properties.{share}
+use Rattle.assignment.specs.Properties.{rowShare}
 use Rattle.planning.specs.declared.Line.{Line}
 use Rattle.planning.specs.Plan.{emptyLine, noLine, rowOf}
 use Rattle.lateness.specs.Lateness.{first, upperOn, lowerOn, overMovers, shareOn, reachOf, push}
@@ -31,7 +31,7 @@ empty-load rs p l = omega (arith, ap (λ (s : ℕ). s * (reachOf rs emptyLine + 
 
 module _ (f : List ℕ → Bool) where
   -- the first line's share is that of the first row
-  pub first-share : (p : ℕ) (lns : List Line) → shareOn p (first (λ ln. f (rowOf ln)) lns) ≡ share (map rowOf lns) (seek f (map rowOf lns)) p
+  pub first-share : (p : ℕ) (lns : List Line) → shareOn p (first (λ ln. f (rowOf ln)) lns) ≡ rowShare (map rowOf lns) (seek f (map rowOf lns)) p
   first-share p [] = empty-share p
   first-share p (ln ∷ lns) = by-cases (f (rowOf ln)) (λ e. rw e) (λ e. rw e (first-share p lns))
 

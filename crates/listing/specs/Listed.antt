@@ -1,4 +1,4 @@
--- The call for a record's listing: what it answers, and what it leaves in the lent buffer.
+-- The calls for a listing, of a record and of a table: what they answer, and what they leave in the lent buffer.
 use Prim.Native.Nat.{ℕ}
 use mathlib.Core.Bool.{cond}
 use mathlib.Core.List.{List, _++_}
