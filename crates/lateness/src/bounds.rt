@@ -33,7 +33,7 @@ fn push(reaches: &[u64; CORES], mover: Mover) -> u64
     ensures { λ r. ⌜ r ≡ pushBy (now (reaches .entry)) mover ⌝ }
 {
     let reach = at(reaches, mover.first);
-    mover.share.0 as u64 * (reach + mover.period.0)
+    mover.share.0 as u64 * (reach + mover.period.0 as u64)
 }
 
 // The reach of a core's lower mover, (s × (D + 2T) + L × (2C' + C)) / (L − s) rounded up, with the upper mover's s, D, T and C'.
@@ -42,7 +42,7 @@ fn reach_on(common: u32, reaches: &[u64; CORES], upper: Mover, lower: Mover) -> 
     ensures { λ r. ⌜ r ≡ reachBy common (now (reaches .entry)) upper lower ⌝ }
 {
     let l = common as u64;
-    let own = l * (2 * upper.cost.0 + lower.cost.0);
+    let own = l * (2 * upper.cost.0 as u64 + lower.cost.0 as u64);
     ceil_div(push(reaches, upper) + own, l - upper.share.0 as u64)
 }
 
@@ -52,7 +52,7 @@ fn fixed_on(common: u32, reaches: &[u64; CORES], upper: Mover, lower: Mover) -> 
     ensures { λ r. ⌜ r ≡ pairLate common (now (reaches .entry)) upper lower ⌝ }
 {
     let l = common as u64;
-    let own = l * (2 * upper.cost.0 + 2 * lower.cost.0);
+    let own = l * (2 * upper.cost.0 as u64 + 2 * lower.cost.0 as u64);
     ceil_div(
         push(reaches, upper) + push(reaches, lower) + own,
         l - upper.share.0 as u64 - lower.share.0 as u64,
@@ -152,7 +152,7 @@ pub fn bounds_of(plan: Plan) -> [i64; TASKS]
         let moves = moves_by(parts_of(shares));
         let first = first_core(shares);
         moving[i] = moves;
-        periods[i] = line.period.0;
+        periods[i] = line.period.0 as u64;
         firsts[i] = first;
         if moves {
             let s = shares[first];

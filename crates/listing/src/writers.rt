@@ -77,8 +77,8 @@ fn put_head(buf: &mut [u8], at: usize, i: usize, line: Line) -> usize
     ensures { λ r. ⌜ r ≤ at + 107 ⌝ }
 {
     let a = put_field(buf, at, b"task ", i as u64);
-    let b = put_field(buf, a, b" cost ", line.cost.0);
-    let c = put_field(buf, b, b" period ", line.period.0);
+    let b = put_field(buf, a, b" cost ", line.cost.0 as u64);
+    let c = put_field(buf, b, b" period ", line.period.0 as u64);
     put_field(buf, c, b" weight ", line.weight.0 as u64)
 }
 
