@@ -95,7 +95,7 @@ fn fixed_of(plan: Plan, movers: Movers, reaches: &[u64; CORES]) -> [u64; CORES]
 // A task's bound: a mover's reach less its period, or the bound of its core's fixed tasks.
 fn late_at(
     moves: bool,
-    period: u64,
+    period: u32,
     first: usize,
     reaches: &[u64; CORES],
     fixed: &[u64; CORES],
@@ -113,7 +113,7 @@ fn late_at(
 // The bounds of tasks: whether each moves, its period and its first core.
 fn lates_of(
     moving: &[bool; TASKS],
-    periods: &[u64; TASKS],
+    periods: &[u32; TASKS],
     firsts: &[usize; TASKS],
     reaches: &[u64; CORES],
     fixed: &[u64; CORES],
@@ -142,7 +142,7 @@ pub fn bounds_of(plan: Plan) -> [i64; TASKS]
     let mut upper = [Mover::NONE; CORES];
     let mut lower = [Mover::NONE; CORES];
     let mut moving = [false; TASKS];
-    let mut periods = [0u64; TASKS];
+    let mut periods = [0u32; TASKS];
     let mut firsts = [0usize; TASKS];
     let mut i: usize = TASKS;
     while 0 < i {
@@ -152,7 +152,7 @@ pub fn bounds_of(plan: Plan) -> [i64; TASKS]
         let moves = moves_by(parts_of(shares));
         let first = first_core(shares);
         moving[i] = moves;
-        periods[i] = line.period.0 as u64;
+        periods[i] = line.period.0;
         firsts[i] = first;
         if moves {
             let s = shares[first];
