@@ -59,6 +59,9 @@ core-in c = placed-in (runOf (c .before .before .before)) (on-core c)
 returns : tie.Need-returns Inv-loop μ-loop
 returns c = rw (lt-leb _ _ (c .if1 .taken))
 
+cast-latest : tie.Need-cast-latest Inv-loop μ-loop
+cast-latest c = search needs
+
 add-latest : tie.Need-add-latest Inv-loop μ-loop
 add-latest c = omega arith
 
@@ -136,6 +139,7 @@ runs-sound-spec =
     Inv-loop
     μ-loop
     returns
+    cast-latest
     add-latest
     loop-holds
     mul-run

@@ -7,6 +7,9 @@ use Rattle.task_state.proofs.State.with_run.Tie as tie
 turn-of-requires : tie.Need-turn-of-requires
 turn-of-requires c κs = search needs
 
+cast-due : tie.Need-cast-due
+cast-due c = search needs
+
 add-due : tie.Need-add-due
 add-due c = search needs
 
@@ -25,4 +28,4 @@ returns c = rw (c .before .before .before .turn-of .ensures)
 
 pub with-run-spec : {M : Type 1} → statement M
 with-run-spec =
-    tie.close (tie.spec turn-of-requires add-due mul-run element-set-from-run add-state returns)
+    tie.close (tie.spec turn-of-requires cast-due add-due mul-run element-set-from-run add-state returns)
