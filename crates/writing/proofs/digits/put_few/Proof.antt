@@ -29,7 +29,8 @@ returns-2 c =
     let p2 = c .before .before in
     let p1 = p2 .before .before .before .before in
     let i = p1 .before .before in
-    (recast (sym (decimal-hundreds _ (i .if1 .left))) (then (p1 .put-one-or-two2 .ensures .0) (p2 .put-two .ensures)), search needs)
+    let n = i .before .before .args .n in
+    (recast (sym (decimal-hundreds n (i .if1 .left))) (then (p1 .put-one-or-two2 .ensures .0) (p2 .put-two .ensures)), search needs)
 
 pub put-few-spec : {M : Type 1} → statement M
 put-few-spec =

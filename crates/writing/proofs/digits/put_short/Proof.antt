@@ -29,7 +29,8 @@ returns-2 c =
     let p2 = c .before .before in
     let p1 = p2 .before .before .before .before in
     let i = p1 .before .before in
-    (recast (sym (decimal-ten-thousands _ (i .if1 .left))) (then (p1 .put-few2 .ensures .0) (p2 .put-four .ensures)), search needs)
+    let n = i .before .before .args .n in
+    (recast (sym (decimal-ten-thousands n (i .if1 .left))) (then (p1 .put-few2 .ensures .0) (p2 .put-four .ensures)), search needs)
 
 pub put-short-spec : {M : Type 1} → statement M
 put-short-spec =
