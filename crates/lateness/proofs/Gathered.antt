@@ -1,9 +1,10 @@
 -- The movers of each core, gathered from the last line to the first.
-use Prim.Native.Nat.{ℕ, _+_, _≤_, _<_}
+use Prim.Native.Nat.{ℕ, zero, suc, _+_, _≤_, _<_}
 use mathlib.Core.Path.{_≡_, refl, sym, ap, _∙_}
 use mathlib.Core.Bool.{Bool, true, false, cond}
 use mathlib.Core.List.{List}
 use native.Mathlib.Numerals.{add-one}
+use native.Mathlib.Omega.{arith}
 use lib.ListN.{length, getD, drop, replicate, drop-of-length-le, getD-replicate}
 use lib.Seq.{drop-cons}
 use borrow.Author.Tests.{le-ltb}
@@ -27,9 +28,12 @@ empty-mover : (p : ℕ) → nobody ≡ moverOn p emptyLine
 unfolding emptyLine
 empty-mover p = ap (λ (s : ℕ). record { share = share s; cost = duration 0; period = duration 0; first = coresLimit }) (sym (empty-share p))
 
+-- no core has a mover
+abbrev nowhere : Movers
+nowhere = record { upper = replicate coresLimit nobody; lower = replicate coresLimit nobody }
+
 -- no line, no mover
-pub gathered-none : (lns : List Line) (i : ℕ) → length lns ≤ i
-    → MoversOf (drop i lns) (record { upper = replicate coresLimit nobody; lower = replicate coresLimit nobody })
+gathered-none : (lns : List Line) (i : ℕ) → length lns ≤ i → MoversOf (drop i lns) nowhere
 gathered-none lns i h = rw (drop-of-length-le lns h) (record {
   uppers = λ p k. getD-replicate coresLimit p nobody noMover k ∙ empty-mover p;
   lowers = λ p k. getD-replicate coresLimit p nobody noMover k ∙ empty-mover p;
@@ -56,3 +60,14 @@ unmoved-upper ms ln h p l = rw (le-ltb 1 (parts (rowOf ln)) h) refl
 
 pub unmoved-lower : (ms : List Mover) (ln : Line) → parts (rowOf ln) ≤ 1 → InFront (λ p. lower p (rowOf ln)) ln ms ms
 unmoved-lower ms ln h p l = rw (le-ltb 1 (parts (rowOf ln)) h) refl
+
+-- empty lines neither: n of them from i to the end
+pub gathered-past : (lns : List Line) (n i : ℕ) → i + n ≡ length lns → ((q : ℕ) → i ≤ q → q < length lns → getD lns q noLine ≡ emptyLine)
+    → MoversOf (drop i lns) (record { upper = replicate coresLimit nobody; lower = replicate coresLimit nobody })
+unfolding emptyLine
+gathered-past lns zero i e k = gathered-none lns i (omega arith)
+gathered-past lns (suc n) i e k =
+    let ln : Line = getD lns i noLine in
+    let few : parts (rowOf ln) ≤ 1 = rw (k i (omega arith) (omega arith)) (omega arith) in
+    gathered-next lns i nowhere nowhere (omega arith) (gathered-past lns n (i + 1) (omega arith) (λ q h l. k q (omega arith) l))
+    (unmoved-upper (nowhere .upper) ln few) (unmoved-lower (nowhere .lower) ln few)

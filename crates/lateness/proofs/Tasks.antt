@@ -6,17 +6,17 @@ use mathlib.Core.List.{List, [], _∷_, map}
 use native.Mathlib.Omega.{arith}
 use lib.Dec.{ltb}
 use lib.IntN.{ℤ, pos}
-use lib.ListN.{length, getD, set, replicate, length-map, List·getD-eq-default}
+use lib.ListN.{length, getD, set, replicate, length-map, length-replicate, getD-replicate, List·getD-eq-default}
 use lib.Seq.{ext-getD}
 use borrow.Author.Tests.{ltb-true, ltb-false}
 use Rattle.units.specs.Limits.{coresLimit, tasksLimit, periodLimit}
 use Rattle.lists.specs.Lists.{zeros, most}
 use Rattle.lists.proofs.Tests.{by-cases}
-use Rattle.lists.proofs.Filled.{Stored, stored-none, store-before}
+use Rattle.lists.proofs.Filled.{Stored, stored-from, store-before}
 use Rattle.assignment.specs.Movers.{moves, firstCore}
 use Rattle.planning.specs.declared.Line.{Line}
 use Rattle.planning.specs.declared.Plan.{Plan}
-use Rattle.planning.specs.Plan.{noLine, rowOf}
+use Rattle.planning.specs.Plan.{emptyLine, noLine, rowOf}
 use Rattle.planning.specs.Kept.{PlanKept}
 use Rattle.lateness.specs.Lateness.{reaches, fixedLate, late, latesOf}
 use Rattle.lateness.specs.Inner.{lateAt, EachLate, reachLimit, lateLimit}
@@ -30,14 +30,23 @@ Noted d f pl old i now = Stored d tasksLimit (λ j. f (getD (pl .lines) j noLine
 pub record AllNoted (pl : Plan) (i : ℕ) (ms : List Bool) (ts ps : List ℕ) : Type 0 where
   pub moving : Noted false (λ ln. moves (rowOf ln)) pl (replicate tasksLimit false) i ms
   pub periods : Noted 0 (λ ln. ln .period .0) pl (zeros tasksLimit) i ts
-  pub firsts : Noted 0 (λ ln. firstCore (rowOf ln)) pl (zeros tasksLimit) i ps
+  pub firsts : Noted 0 (λ ln. firstCore (rowOf ln)) pl (replicate tasksLimit coresLimit) i ps
 
--- none is noted
-pub noted-none : (pl : Plan) → AllNoted pl tasksLimit (replicate tasksLimit false) (zeros tasksLimit) (zeros tasksLimit)
-noted-none pl = record {
-  moving = stored-none false tasksLimit _ (replicate tasksLimit false) tasksLimit (omega arith) refl;
-  periods = stored-none 0 tasksLimit _ (zeros tasksLimit) tasksLimit (omega arith) refl;
-  firsts = stored-none 0 tasksLimit _ (zeros tasksLimit) tasksLimit (omega arith) refl;
+-- past the tasks nothing has to be noted
+noted-past : {A : Type 0} (d : A) (f : Line → A) (pl : Plan) → PlanKept pl → Noted d f pl (replicate tasksLimit (f emptyLine)) (pl .count)
+    (replicate tasksLimit (f emptyLine))
+noted-past d f pl k =
+    let e = f emptyLine in
+    stored-from d tasksLimit _ (replicate tasksLimit e) (pl .count) (k .tasks-few) (length-replicate tasksLimit e)
+    (λ q h m. getD-replicate tasksLimit q e d m ∙ ap f (sym (k .past q h m)))
+
+pub noted-none : (pl : Plan) → PlanKept pl
+    → AllNoted pl (pl .count) (replicate tasksLimit false) (zeros tasksLimit) (replicate tasksLimit coresLimit)
+unfolding emptyLine
+noted-none pl k = record {
+  moving = noted-past false (λ ln. moves (rowOf ln)) pl k;
+  periods = noted-past 0 (λ ln. ln .period .0) pl k;
+  firsts = noted-past 0 (λ ln. firstCore (rowOf ln)) pl k;
 }
 
 -- one task more

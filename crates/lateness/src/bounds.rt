@@ -134,7 +134,7 @@ fn lates_of(
     lates
 }
 
-// The bound of each task, in ticks. The lines are read once; what follows works on numbers.
+// The bound of each task, in ticks. The tasks' lines are read once; what follows works on numbers, and past the tasks it finds 0.
 pub fn bounds_of(plan: Plan) -> [i64; TASKS]
     requires { ⌜ PlanKept plan ⌝ }
     ensures { λ r. ⌜ r ≡ latesOf plan ⌝ }
@@ -143,8 +143,8 @@ pub fn bounds_of(plan: Plan) -> [i64; TASKS]
     let mut lower = [Mover::NONE; CORES];
     let mut moving = [false; TASKS];
     let mut periods = [0u32; TASKS];
-    let mut firsts = [0usize; TASKS];
-    let mut i: usize = TASKS;
+    let mut firsts = [CORES; TASKS];
+    let mut i = plan.count;
     while 0 < i {
         i -= 1;
         let line = plan.lines[i];

@@ -6,13 +6,13 @@ use mathlib.Core.List.{List, [], _∷_, _++_, append-assoc, append-nil, append-c
 use native.Mathlib.Omega.{arith}
 use lib.IntN.{ℤ}
 use lib.ListN.{length}
-use Rattle.units.specs.Units.{share, duration, units}
-use Rattle.units.proofs.Units.{nums-length, units-nums}
+use Rattle.units.proofs.Units.{nums-length}
 use Rattle.writing.specs.Ascii.{ascii, newline}
 use Rattle.writing.specs.Decimal.{signedOf}
 use Rattle.writing.specs.Field.{field, lineEnd}
 use Rattle.assignment.specs.Movers.{moves}
 use Rattle.planning.specs.declared.Line.{Line}
+use Rattle.planning.proofs.Agreed.{line-same}
 use Rattle.planning.specs.Plan.{rowOf}
 use Rattle.listing.specs.Listing.{sharesText, headText, rowText, lateText, taskText}
 use Rattle.listing.proofs.Digits.{Stops, field-cut, signed-cut}
@@ -89,12 +89,6 @@ head-cut i j a b t u p q e =
     let period = field-cut " period " (a .period .0) (b .period .0) (afterPeriod a t) (afterPeriod b u) refl refl (cost .1) in
     let weight = field-cut " weight " (a .weight .0) (b .weight .0) t u p q (period .1) in
     record { number = number .0; cost = cost .0; period = period .0; weight = weight .0; rest = weight .1 }
-
--- lines whose numbers agree
-pub line-same : (a b : Line) → a .cost .0 ≡ b .cost .0 → a .period .0 ≡ b .period .0 → a .weight .0 ≡ b .weight .0 → rowOf a ≡ rowOf b → a ≡ b
-line-same a b c t w r =
-    let shares = sym (units-nums (a .shares)) ∙ ap units r ∙ units-nums (b .shares) in
-    λ i. record { cost = duration (c i); period = duration (t i); weight = share (w i); shares = shares i }
 
 -- a task's line is told from a text that starts with it, and so is what follows
 pub task-cut : (i j : ℕ) (a b : Line) (y z : ℤ) (t u : List ℕ) → length (a .shares) ≡ length (b .shares)

@@ -30,7 +30,8 @@ use Rattle.planning.specs.Shape.{PlanShaped}
 use Rattle.dispatch.proofs.Held.{held}
 use Rattle.listing.specs.Listing.{headText, taskText, tasksText, listingText}
 use Rattle.listing.proofs.Digits.{field-cut}
-use Rattle.listing.proofs.Line.{task-cut, line-same}
+use Rattle.planning.proofs.Agreed.{line-same}
+use Rattle.listing.proofs.Line.{task-cut}
 
 -- the text of a task's line in a list of lines
 abbrev lineText : List Line → List ℤ → ℕ → List ℕ

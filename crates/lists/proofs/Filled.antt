@@ -38,6 +38,10 @@ module _ {A : Type 0} (d : A) (n : ℕ) (f : ℕ → A) (old : List A) where
     above = λ q l. refl;
   }
 
+  -- those from a on are right as they were
+  pub stored-from : (a : ℕ) → a ≤ n → length old ≡ n → ((q : ℕ) → a ≤ q → q < n → getD old q d ≡ f q) → Stored d n f old a n old
+  stored-from a h e k = record { ordered = h; within = omega arith; long = e; done = k; below = λ q l. refl; above = λ q l. refl }
+
   -- the next one is stored
   pub store-next : (a b : ℕ) (now : List A) (v : A) → Stored d n f old a b now → b < n → v ≡ f b → Stored d n f old a (b + 1) (set now b v)
   store-next a b now v k h e =

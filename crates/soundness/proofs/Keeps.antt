@@ -66,8 +66,10 @@ module _ (m l : ℕ) (xs ws : List ℕ) (f : Fits m l xs ws) where
         cores-few = f .cores-few;
         common-some = f .common-some;
         common-small = f .common-small;
+        tasks-few = omega (arith, f .tasks-few);
         costs = each-line (λ ln. ln .cost .0 ≤ periodLimit) (omega arith) (omega arith) (f .costs);
         periods = each-line (λ ln. ln .period .0 ≤ periodLimit) (omega arith) (omega arith) (f .periods);
+        past = empty-line xs ws rows (f .tasks-few) (f .weighed) rows-long;
         structure = subst⁻¹ (λ (vs : List ℕ). Structure m l vs (sharesTable (planFor m l ws xs))) w
             (subst⁻¹ (λ (tab : List (List ℕ)). Structure m l ws tab) t held);
       }

@@ -10,20 +10,22 @@ use lib.Seq.{ext-getD}
 use borrow.Author.Tests.{ltb-true, ltb-false, leb-true, eqb-true, eq-eqb, le-ltb}
 use Rattle.units.specs.Limits.{coresLimit, tasksLimit, periodLimit}
 use Rattle.units.proofs.Units.{nums-long}
-use Rattle.lists.specs.Lists.{total}
+use Rattle.lists.specs.Lists.{total, zeros}
 use Rattle.lists.specs.Rows.{howMany, column, top}
 use Rattle.lists.proofs.Tests.{by-cases, and-left, and-right}
 use Rattle.assignment.specs.Movers.{fixedOn, movesOn, lower}
 use Rattle.assignment.specs.Structure.{CoreKept, Structure}
 use Rattle.planning.specs.declared.Line.{Line}
 use Rattle.planning.specs.declared.Plan.{Plan}
-use Rattle.planning.specs.Plan.{noLine, rowOf, sharesTable, planWeights}
+use Rattle.planning.specs.Plan.{emptyLine, noLine, rowOf, sharesTable, planWeights}
+use Rattle.planning.proofs.Agreed.{line-same}
 use Rattle.planning.specs.Kept.{PlanKept}
 use Rattle.soundness.specs.Rules.{lineEmpty, coreWithin, fewMovers, oneFirst, guarded}
 use Rattle.soundness.specs.Plan.{planSound}
 use Rattle.planning.specs.Shape.{PlanShaped}
 use Rattle.soundness.proofs.Facts.{ruled, Numbers, numbers}
 use Rattle.soundness.proofs.Lined.{lined}
+use Rattle.soundness.proofs.PlannedLines.{zero-row}
 
 -- what is known of any line, of a task or empty
 record Bounded (ln : Line) : Type 0 where
@@ -32,19 +34,25 @@ record Bounded (ln : Line) : Type 0 where
   period : ln .period .0 ≤ periodLimit
 
 -- the line of no task
-empty-bounded : (ln : Line) → lineEmpty ln ≡ true → Bounded ln
-empty-bounded ln e =
+past-empty : (ln : Line) → length (ln .shares) ≡ coresLimit → lineEmpty ln ≡ true → ln ≡ emptyLine
+unfolding emptyLine
+past-empty ln l e =
     let a = eqb (ln .cost .0) 0 in
     let b = eqb (ln .period .0) 0 in
     let c = eqb (ln .weight .0) 0 in
     let d = eqb (total (rowOf ln)) 0 in
     let abc = and-left (a && b && c) d e in
     let ab = and-left (a && b) c abc in
-    record {
-      shares = omega (arith, eqb-true (total (rowOf ln)) 0 (and-right (a && b && c) d e), eqb-true (ln .weight .0) 0 (and-right (a && b) c abc));
-      cost = omega (arith, eqb-true (ln .cost .0) 0 (and-left a b ab));
-      period = omega (arith, eqb-true (ln .period .0) 0 (and-right a b ab));
-    }
+    let none = zero-row (rowOf ln) (eqb-true (total (rowOf ln)) 0 (and-right (a && b && c) d e)) in
+    line-same ln emptyLine
+    (eqb-true (ln .cost .0) 0 (and-left a b ab))
+    (eqb-true (ln .period .0) 0 (and-right a b ab))
+    (eqb-true (ln .weight .0) 0 (and-right (a && b) c abc))
+    (none ∙ ap zeros (nums-long (ln .shares) coresLimit l))
+
+empty-bounded : Bounded emptyLine
+unfolding emptyLine
+empty-bounded = record { shares = refl; cost = omega arith; period = omega arith }
 
 -- no row reaches core p
 column-none : (p : ℕ) (tab : List (List ℕ)) → ((i : ℕ) → i < length tab → length (getD tab i []) ≤ p) → column p tab ≡ 0
@@ -65,6 +73,10 @@ module _ (pl : Plan) (long : PlanShaped pl) (s : planSound pl ≡ true) where
   n : Numbers pl
   n = numbers pl (ruled pl s .numbers)
 
+  -- past its tasks the lines are empty
+  past : (i : ℕ) → pl .count ≤ i → i < tasksLimit → getD (pl .lines) i noLine ≡ emptyLine
+  past i h m = past-empty (getD (pl .lines) i noLine) (long .shares i m) (rw (le-ltb i (pl .count) h) at (ruled pl s .lines i m))
+
   -- every line, of a task or not
   bounded : (i : ℕ) → Bounded (getD (pl .lines) i noLine)
   bounded i =
@@ -73,7 +85,7 @@ module _ (pl : Plan) (long : PlanShaped pl) (s : planSound pl ≡ true) where
       let f = lined pl (long .lines) s i (ltb-true i (pl .count) e) in
       record { shares = f .shares; cost = omega (arith, f .cost, f .period); period = f .period })
       (λ e. by-cases (ltb i tasksLimit)
-      (λ m. empty-bounded (getD (pl .lines) i noLine) (rw e at (ruled pl s .lines i (ltb-true i tasksLimit m))))
+      (λ m. rw (past i (ltb-false i (pl .count) e) (ltb-true i tasksLimit m)) empty-bounded)
       (λ m. rw (List·getD-eq-default (pl .lines) noLine {n = i} (omega (arith, long .lines, ltb-false i tasksLimit m)))
       (record { shares = refl; cost = omega arith; period = omega arith })))
 
@@ -126,7 +138,9 @@ module _ (pl : Plan) (long : PlanShaped pl) (s : planSound pl ≡ true) where
     cores-few = n .cores-few;
     common-some = n .common-some;
     common-small = n .common-small;
+    tasks-few = n .count-few;
     costs = λ i. bounded i .cost;
     periods = λ i. bounded i .period;
+    past = past;
     structure = structure;
   }

@@ -14,7 +14,7 @@ use Rattle.planning.specs.Plan.{noLine, rowOf}
 use Rattle.lateness.specs.declared.movers.Movers.{Movers}
 use Rattle.lateness.specs.Inner.{MoversOf}
 use Rattle.lateness.proofs.Front.{as-mover, first-there, lower-front}
-use Rattle.lateness.proofs.Gathered.{gathered-none, gathered-next, unmoved-upper, unmoved-lower}
+use Rattle.lateness.proofs.Gathered.{gathered-past, gathered-next, unmoved-upper, unmoved-lower}
 use Rattle.lateness.proofs.Tasks.{AllNoted, noted-none, noted-next, periods-small, reaches-small, fixed-small, tasks-late}
 use borrow.Author.Needs.{needs}
 use Rattle.lateness.proofs.bounds.bounds_of.Statement.{statement}
@@ -79,8 +79,14 @@ core-there c =
 
 loop-holds : tie.Need-loop-holds Inv-loop μ-loop
 loop-holds c =
-    let l = lines-long c in
-    (omega arith, gathered-none (c .args .t1 .lines) tasksLimit (omega arith), refl, noted-none (c .args .t1))
+    let pl = c .args .t1 in
+    let k = c .pre in
+    let l = lines-long c in (
+      k .tasks-few,
+      gathered-past (pl .lines) (tasksLimit - pl .count) (pl .count) (omega (arith, k .tasks-few)) (λ q h m. k .past q h (omega arith)),
+      refl,
+      noted-none pl k,
+    )
 
 sub-i : tie.Need-sub-i Inv-loop μ-loop
 sub-i c = omega arith
