@@ -23,12 +23,13 @@ fn roomiest(room: Row) -> usize
     ensures { λ r. ⌜ r ≡ atMost (nums (room .shares)) ⌝ }
 {
     let mut best: usize = 0;
+    let mut most = room.shares[0];
     let mut p: usize = 1;
     while p < CORES {
-        let most = room.shares[best];
         let here = room.shares[p];
         if most.0 < here.0 {
             best = p;
+            most = here;
         }
         p += 1;
     }
