@@ -13,7 +13,7 @@ use Rattle.lists.specs.Lists.{zeros}
 use Rattle.lists.proofs.Tests.{by-cases, and-left, and-right}
 use Rattle.assignment.specs.Passes.{give, behind, onward}
 
--- of m cores, those from the b-th on had this room: a task of weight w is given some of it; the pointer is at core p, and the task still needs need
+-- of m cores those from core b on had this room, and a task of weight w is given of it; now the pointer is at core p, and the task still needs this
 pub record Giving (m w b : ℕ) (room row left : List ℕ) (need p : ℕ) : Type 0 where
   pub below : p ≤ m
   pub row-long : length row ≡ m
@@ -25,6 +25,14 @@ pub record Giving (m w b : ℕ) (room row left : List ℕ) (need p : ℕ) : Type
   pub blank : 0 < need → drop p row ≡ zeros (length (drop p left))
   -- then the row is whole
   pub whole : need ≡ 0 → zeros b ++ give w room ≡ row
+
+-- a step: the task needs more, and the core at the pointer gives it v and has u left; then it still needs n
+pub record Step (m : ℕ) (left : List ℕ) (need p v u n : ℕ) : Type 0 where
+  pub low : p < m
+  pub some : 0 < need
+  pub share : v ≡ min need (getD left p 0)
+  pub rest : u ≡ getD left p 0 - need
+  pub more : n ≡ need - getD left p 0
 
 -- a task that needs no more is given nothing
 give-none : (rs : List ℕ) → give 0 rs ≡ zeros (length rs)
@@ -45,10 +53,6 @@ onward-none (r ∷ rs) = let a : r - 0 ≡ r = omega arith in rw (le-ltb r 0 (om
 pub going : (need p m : ℕ) → (ltb 0 need && ltb p m) ≡ true → (0 < need) × (p < m)
 going need p m e = (ltb-true 0 need (and-left (ltb 0 need) (ltb p m) e), ltb-true p m (and-right (ltb 0 need) (ltb p m) e))
 
--- it needs no more, or there is none
-pub ended : (need p m : ℕ) → (ltb 0 need && ltb p m) ≡ false → 0 < need → m ≤ p
-ended need p m e k = ltb-false p m (rw (lt-ltb 0 need k) at e)
-
 -- at the first core
 pub start : (m w b : ℕ) (left : List ℕ) → b ≤ m → length left ≡ m → Giving m w b (drop b left) (zeros m) left w b
 start m w b left h k =
@@ -68,10 +72,10 @@ start m w b left h k =
     }
 
 module _ (m w b : ℕ) (room row left : List ℕ) (need p : ℕ) (g : Giving m w b room row left need p) where
-  module _ (v u n : ℕ) (low : p < m) (some : 0 < need) (ev : v ≡ min need (getD left p 0)) (eu : u ≡ getD left p 0 - need) (en : n ≡ need - getD left p 0) where
+  module _ (v u n : ℕ) (s : Step m left need p v u n) where
     -- the core at the pointer, and those after it
     cons : drop p left ≡ getD left p 0 ∷ drop (suc p) left
-    cons = drop-cons left p 0 (omega (arith, g .left-long))
+    cons = drop-cons left p 0 (omega (arith, s .low, g .left-long))
 
     after : drop (suc p) (set left p u) ≡ drop (suc p) left
     after = drop-set-lt (suc p) left p u (omega arith)
@@ -80,62 +84,65 @@ module _ (m w b : ℕ) (room row left : List ℕ) (need p : ℕ) (g : Giving m w
     blank-after : drop (suc p) row ≡ zeros (length (drop (suc p) left))
     blank-after =
         tail-eq-of-cons-eq
-        (sym (drop-cons row p 0 (omega (arith, g .row-long))) ∙ g .blank some ∙ ap (λ (l : List ℕ). zeros (length l)) cons)
+        (sym (drop-cons row p 0 (omega (arith, s .low, g .row-long))) ∙ g .blank (s .some) ∙ ap (λ (l : List ℕ). zeros (length l)) cons)
 
     -- the task needs more: the core is left for the next one
     pub next : 0 < n → Giving m w b room (set row p v) (set left p u) n (p + 1)
-    next more =
-        let over : ltb (getD left p 0) need ≡ true = lt-ltb (getD left p 0) need (omega arith) in
-        let step : behind need (drop p left) ≡ suc (behind n (drop (suc p) left)) = rw (cons, over, en) in
-        let on : onward need (drop p left) ≡ onward n (drop (suc p) left) = rw (cons, over, en) in
-        let give-on : give need (drop p left) ≡ v ∷ give n (drop (suc p) left) = rw (cons, over, en, ev) in
+    next k =
+        let over : ltb (getD left p 0) need ≡ true = lt-ltb (getD left p 0) need (omega (arith, s .more)) in
+        let step : behind need (drop p left) ≡ suc (behind n (drop (suc p) left)) = rw (cons, over, s .more) in
+        let on : onward need (drop p left) ≡ onward n (drop (suc p) left) = rw (cons, over, s .more) in
+        let give-on : give need (drop p left) ≡ v ∷ give n (drop (suc p) left) = rw (cons, over, s .more, s .share) in
         record {
-          below = omega arith;
+          below = omega (arith, s .low);
           row-long = length-set row p v ∙ g .row-long;
           left-long = length-set left p u ∙ g .left-long;
           pointer = rw (add-one p, after) (omega (arith, g .pointer, step));
           kept = rw (add-one p, after) (g .kept ∙ on);
-          given = λ k.
+          given = λ some.
               rw (
                 add-one p,
                 after,
-                take-suc-set row p v (omega (arith, g .row-long)),
+                take-suc-set row p v (omega (arith, s .low, g .row-long)),
                 append-assoc (take p row) (v ∷ []) (give n (drop (suc p) left)),
-              ) (g .given some ∙ ap (λ (l : List ℕ). take p row ++ l) give-on);
-          blank = λ k. rw (add-one p, after) (drop-set-lt (suc p) row p v (omega arith) ∙ blank-after);
+              ) (g .given (s .some) ∙ ap (λ (l : List ℕ). take p row ++ l) give-on);
+          blank = λ some. rw (add-one p, after) (drop-set-lt (suc p) row p v (omega arith) ∙ blank-after);
           whole = λ none. absurd (omega arith);
         }
 
     -- the task needs no more: the core may have some left
     pub last : n ≡ 0 → Giving m w b room (set row p v) (set left p u) n p
     last none =
-        let fits : ltb (getD left p 0) need ≡ false = le-ltb (getD left p 0) need (omega arith) in
+        let fits : ltb (getD left p 0) need ≡ false = le-ltb (getD left p 0) need (omega (arith, s .more)) in
         let stay : behind need (drop p left) ≡ 0 = rw (cons, fits) in
-        let on : onward need (drop p left) ≡ u ∷ drop (suc p) left = rw (cons, fits, eu) in
-        let give-on : give need (drop p left) ≡ v ∷ zeros (length (drop (suc p) left)) = rw (cons, fits, ev) in
-        let long : p < length (set left p u) = omega (arith, length-set left p u, g .left-long) in
+        let on : onward need (drop p left) ≡ u ∷ drop (suc p) left = rw (cons, fits, s .rest) in
+        let give-on : give need (drop p left) ≡ v ∷ zeros (length (drop (suc p) left)) = rw (cons, fits, s .share) in
+        let low : p < length left = omega (arith, s .low, g .left-long) in
         let now : drop p (set left p u) ≡ u ∷ drop (suc p) left =
-        drop-cons (set left p u) p 0 long ∙ ap₂ (λ (x : ℕ) (l : List ℕ). x ∷ l) (getD-set-same left p u 0 (omega (arith, g .left-long))) after in
+        drop-cons (set left p u) p 0 (omega (arith, length-set left p u)) ∙ ap₂ (λ (x : ℕ) (l : List ℕ). x ∷ l) (getD-set-same left p u 0 low) after in
         record {
           below = g .below;
           row-long = length-set row p v ∙ g .row-long;
           left-long = length-set left p u ∙ g .left-long;
           pointer = rw (none, behind-none (drop p (set left p u))) (omega (arith, g .pointer, stay));
           kept = rw (none, onward-none (drop p (set left p u)), now) (g .kept ∙ on);
-          given = λ k. absurd (omega arith);
-          blank = λ k. absurd (omega arith);
+          given = λ some. absurd (omega arith);
+          blank = λ some. absurd (omega arith);
           whole = λ k.
-              rw (set-split row p v (omega (arith, g .row-long)), blank-after) (g .given some ∙ ap (λ (l : List ℕ). take p row ++ l) give-on);
+              rw (set-split row p v (omega (arith, s .low, g .row-long)), blank-after) (g .given (s .some) ∙ ap (λ (l : List ℕ). take p row ++ l) give-on);
         }
 
   -- it needs no more, or there is no core left
-  pub done : (0 < need → m ≤ p) → (row ≡ zeros b ++ give w room) × (p ≡ b + behind w room) × (drop p left ≡ onward w room)
+  pub done : (ltb 0 need && ltb p m) ≡ false → (row ≡ zeros b ++ give w room) × (p ≡ b + behind w room) × (drop p left ≡ onward w room)
   done end =
       by-cases (ltb 0 need)
       (λ e.
-      let some = ltb-true 0 need e in
-      let out : drop p left ≡ [] = drop-of-length-le left {i = p} (omega (arith, g .left-long, end some)) in (
-        sym (g .given some ∙ ap₂ (λ (a l : List ℕ). a ++ give need l) (take-all p row (omega (arith, g .row-long, end some))) out ∙ append-nil row),
+      let past : m ≤ p = ltb-false p m (rw e at end) in
+      let out : drop p left ≡ [] = drop-of-length-le left {i = p} (omega (arith, g .left-long)) in (
+        sym
+            (g .given (ltb-true 0 need e)
+            ∙ ap₂ (λ (a l : List ℕ). a ++ give need l) (take-all p row (omega (arith, g .row-long))) out
+            ∙ append-nil row),
         omega (arith, g .pointer, ap (behind need) out),
         out ∙ sym (g .kept ∙ ap (onward need) out),
       ))

@@ -18,22 +18,22 @@ whole w p room = set (zeros (length room)) p w
 abbrev pub less : ℕ → ℕ → List ℕ → List ℕ
 less w p room = set room p (getD room p 0 - w)
 
--- pass two: of the cores from the pointer on, the smaller of what the task still needs and what the core has left, until it needs no more
+-- pass two: of each core from the pointer on a task is given the smaller of what it still needs and what the core has left
 abbrev pub give : ℕ → List ℕ → List ℕ
 give n [] = []
 give n (r ∷ rs) = min n r ∷ cond (ltb r n) (give (n - r) rs) (zeros (length rs))
 
--- how many cores are full then, and the task needs more: each is left for the next one
+-- how many full cores are left for the next one: the task still needs more than they have left
 abbrev pub behind : ℕ → List ℕ → ℕ
 behind n [] = 0
 behind n (r ∷ rs) = cond (ltb r n) (suc (behind (n - r) rs)) 0
 
--- and what the cores that are not left behind have left
+-- and what the cores have left from the pointer on then: those left behind are never looked at again
 abbrev pub onward : ℕ → List ℕ → List ℕ
 onward n [] = []
 onward n (r ∷ rs) = cond (ltb r n) (onward (n - r) rs) ((r - n) ∷ rs)
 
--- the shares of tasks of these weights in pass two, with p cores left behind for good: none is looked at again
+-- the shares of tasks of these weights in pass two, with the pointer at core p and this room from there on
 abbrev pub passTwo : ℕ → List ℕ → List ℕ → List (List ℕ)
 passTwo p [] room = []
 passTwo p (w ∷ ws) room = (zeros p ++ give w room) ∷ passTwo (p + behind w room) ws (onward w room)

@@ -8,7 +8,7 @@ use Rattle.units.specs.Units.{nums}
 use Rattle.units.proofs.Units.{field-long, nums-at, nums-set}
 use Rattle.assignment.specs.Passes.{rowsOf}
 use Rattle.assignment.specs.Inner.{assignTwo, from}
-use Rattle.assignment.proofs.Giving.{Giving, going, ended, start, next, last, done}
+use Rattle.assignment.proofs.Giving.{Giving, Step, going, start, next, last, done}
 use Rattle.assignment.proofs.Steps.{rows-set, two-next, two-end}
 use borrow.Author.Needs.{needs}
 use Rattle.assignment.proofs.pass_two.Statement.{statement}
@@ -38,6 +38,16 @@ task-low c = c .before .before .before .before .pre .low (c .before .before .loo
 -- it needs more, and the pointer is at one of the box's cores
 goes : (c : tie.Then1 Inv-loop2 μ-loop2 Inv-loop μ-loop) → (0 < c .before .before .loop2 .need .0) × (c .before .before .loop2 .p < coresLimit)
 goes c = going _ _ _ (c .if1 .taken)
+
+-- it is given its share of that core
+steps : (c : tie.After-rest2 Inv-loop2 μ-loop2 Inv-loop μ-loop)
+    → let at = c .before .before .before .before .before .before .loop2 in
+    Step coresLimit (nums (at .left)) (at .need .0) (at .p) (c .before .before .smaller .result .0) (c .before .rest .result .0) (c .rest2 .result .0)
+steps c =
+    let at = c .before .before .before .before .before .before .loop2 in
+    let go = goes (c .before .before .before .before) in
+    let have = nums-at (at .left) (at .p) in
+    record { low = go .1; some = go .0; share = omega arith; rest = omega arith; more = omega arith }
 
 loop-holds : tie.Need-loop-holds Inv-loop2 μ-loop2 Inv-loop μ-loop
 loop-holds c = (omega arith, search (needs, field-long), refl)
@@ -95,10 +105,7 @@ loop2-less c = omega (arith, goes (c .before .before .before .before .before .be
 loop2-again : tie.Need-loop2-again Inv-loop2 μ-loop2 Inv-loop μ-loop
 loop2-again c =
     let at = c .before .before .before .before .before .before .before .before .loop2 in
-    let go = goes (c .before .before .before .before .before .before) in
-    let have = nums-at (at .left) (at .p) in
-    rw (nums-set (at .row), nums-set (at .left))
-    (next _ _ _ _ _ _ _ _ (at .inv) _ _ _ (go .1) (go .0) (omega arith) (omega arith) (omega arith) (omega arith))
+    rw (nums-set (at .row), nums-set (at .left)) (next _ _ _ _ _ _ _ _ (at .inv) _ _ _ (steps (c .before .before)) (omega arith))
 
 loop2-less-2 : tie.Need-loop2-less-2 Inv-loop2 μ-loop2 Inv-loop μ-loop
 loop2-less-2 c = omega (arith, goes (c .before .before .before .before .before .before))
@@ -106,10 +113,7 @@ loop2-less-2 c = omega (arith, goes (c .before .before .before .before .before .
 loop2-again-2 : tie.Need-loop2-again-2 Inv-loop2 μ-loop2 Inv-loop μ-loop
 loop2-again-2 c =
     let at = c .before .before .before .before .before .before .before .before .loop2 in
-    let go = goes (c .before .before .before .before .before .before) in
-    let have = nums-at (at .left) (at .p) in
-    rw (nums-set (at .row), nums-set (at .left))
-    (last _ _ _ _ _ _ _ _ (at .inv) _ _ _ (go .1) (go .0) (omega arith) (omega arith) (omega arith) (omega arith))
+    rw (nums-set (at .row), nums-set (at .left)) (last _ _ _ _ _ _ _ _ (at .inv) _ _ _ (steps (c .before .before)) (omega arith))
 
 mul-table : tie.Need-mul-table Inv-loop2 μ-loop2 Inv-loop μ-loop
 mul-table c = omega (arith, task-low (c .before .before .before .before))
@@ -128,7 +132,7 @@ loop-again c =
     let s = c .before .before .before .before .before .before .before .before in
     let at = c .before .before .before .before .before .before .loop in
     let at2 = c .before .before .loop2 in
-    let end = done _ _ _ _ _ _ _ _ (at2 .inv) (ended _ _ _ (c .if1 .left)) in (
+    let end = done _ _ _ _ _ _ _ _ (at2 .inv) (c .if1 .left) in (
       at2 .inv .below,
       at2 .inv .left-long,
       rw (rows-set (at .table), end .0, end .2, end .1)
