@@ -13,7 +13,7 @@ use Rattle.lists.specs.Lists.{zeros}
 use Rattle.lists.proofs.Tests.{by-cases, and-left, and-right}
 use Rattle.assignment.specs.Passes.{give, behind, onward}
 
--- of m cores those from core b on had this room, and a task of weight w is given of it; now the pointer is at core p, and the task still needs this
+-- of the room of the cores from core b on (m in all) a task of weight w is given its shares: the pointer is now at core p, and need is what it still needs
 pub record Giving (m w b : ℕ) (room row left : List ℕ) (need p : ℕ) : Type 0 where
   pub below : p ≤ m
   pub row-long : length row ≡ m
