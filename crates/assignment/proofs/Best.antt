@@ -32,10 +32,11 @@ lower (y ∷ xs) x k h =
     let f = leb-false (most xs) y e in
     rw (e, lt-leb (most (xs ++ x ∷ [])) y (omega (arith, most-snoc xs x))) (ap suc (lower xs x (most-some xs y f) (omega arith))))
 
--- best is where the largest of the first i numbers stands first
-pub record Best (xs : List ℕ) (best i : ℕ) : Type 0 where
+-- best is where the largest of the first i numbers stands first, and top that number
+pub record Best (xs : List ℕ) (best top i : ℕ) : Type 0 where
   pub within : best < i
   pub is : best ≡ atMost (take i xs)
+  pub there : top ≡ getD xs best 0
 
 -- the first of one
 alone : (xs : List ℕ) → _≡_ {A = ℕ} 0 (atMost (take 1 xs))
@@ -43,36 +44,39 @@ alone [] = refl
 alone (x ∷ xs) = rw (le-leb 0 x (omega arith))
 
 -- of the first number alone it is the first
-pub first : (xs : List ℕ) → Best xs 0 1
-first xs = record { within = omega arith; is = alone xs }
+pub first : (xs : List ℕ) (top : ℕ) → top ≡ getD xs 0 0 → Best xs 0 top 1
+first xs top e = record { within = omega arith; is = alone xs; there = e }
 
 -- of all numbers
-pub last : (xs : List ℕ) (best i : ℕ) → Best xs best i → length xs ≤ i → best ≡ atMost xs
-last xs best i b h = b .is ∙ ap atMost (take-all i xs h)
+pub last : (xs : List ℕ) (best top i : ℕ) → Best xs best top i → length xs ≤ i → best ≡ atMost xs
+last xs best top i b h = b .is ∙ ap atMost (take-all i xs h)
 
-module _ (xs : List ℕ) (best i : ℕ) (b : Best xs best i) (h : i < length xs) where
-  -- the largest so far stands there
-  at-best : getD xs best 0 ≡ most (take i xs)
-  at-best =
-      sym (getD-take i xs best 0 (b .within))
+module _ (xs : List ℕ) (best top i : ℕ) (b : Best xs best top i) (h : i < length xs) where
+  -- it is the largest so far
+  top-most : top ≡ most (take i xs)
+  top-most =
+      b .there
+      ∙ sym (getD-take i xs best 0 (b .within))
       ∙ ap (λ (k : ℕ). getD (take i xs) k 0) (b .is)
       ∙ atMost-is (take i xs)
 
   -- the next number is larger
-  pub better : getD xs best 0 < getD xs i 0 → Best xs i (i + 1)
-  better k = record {
+  pub better : (x : ℕ) → x ≡ getD xs i 0 → top < x → Best xs i x (i + 1)
+  better x e k = record {
     within = omega arith;
-    is = rw (add-one i, take-suc xs i 0 h, higher (take i xs) (getD xs i 0) (omega (arith, at-best))) (sym (length-take-le i xs (omega arith)));
+    is = rw (add-one i, take-suc xs i 0 h, higher (take i xs) (getD xs i 0) (omega (arith, top-most))) (sym (length-take-le i xs (omega arith)));
+    there = e;
   }
 
   -- the next number is no larger
-  pub kept : getD xs i 0 ≤ getD xs best 0 → Best xs best (i + 1)
+  pub kept : getD xs i 0 ≤ top → Best xs best top (i + 1)
   kept k = record {
     within = omega (arith, b .within);
     is = rw (
       add-one i,
       take-suc xs i 0 h,
       lower (take i xs) (getD xs i 0) (omega (arith, length-take-le i xs (omega arith), b .within))
-          (omega (arith, at-best)),
+          (omega (arith, top-most)),
     ) (b .is);
+    there = b .there;
   }

@@ -10,8 +10,8 @@ use Rattle.lists.specs.Lists.{total}
 use Rattle.lists.specs.Rows.{howMany, column}
 use Rattle.lists.proofs.Tests.{bit-cases}
 use Rattle.lists.proofs.Lists.{sum-take-suc, sum-ends}
-use Rattle.assignment.specs.Passes.{cut, rest, passTwo}
 use Rattle.assignment.specs.Movers.{upper, lower}
+use Rattle.assignment.proofs.Poured.{cut, rest, pour}
 use Rattle.assignment.proofs.Words.{upper-says, lower-says}
 
 -- what it takes of the first p cores
@@ -44,17 +44,17 @@ cut-rest n (r ∷ rs) zero = omega arith
 cut-rest n (r ∷ rs) (suc p) = cut-rest (n - r) rs p
 
 -- pass two gives each task its whole weight, where there is room for all
-pub passTwo-sums : (ws room : List ℕ) → total ws ≤ total room → map total (passTwo ws room) ≡ ws
-passTwo-sums [] room h = refl
-passTwo-sums (w ∷ ws) room h =
+pub pour-sums : (ws room : List ℕ) → total ws ≤ total room → map total (pour ws room) ≡ ws
+pour-sums [] room h = refl
+pour-sums (w ∷ ws) room h =
     let e : total (cut w room) ≡ w = omega (arith, cut-sum w room) in
-    let ih : map total (passTwo ws (rest w room)) ≡ ws = passTwo-sums ws (rest w room) (omega (arith, rest-sum w room)) in
+    let ih : map total (pour ws (rest w room)) ≡ ws = pour-sums ws (rest w room) (omega (arith, rest-sum w room)) in
     λ i. e i ∷ ih i
 
 -- and fills no core past its room
-pub passTwo-column : (p : ℕ) (ws room : List ℕ) → column p (passTwo ws room) ≤ getD room p 0
-passTwo-column p [] room = omega arith
-passTwo-column p (w ∷ ws) room = omega (arith, passTwo-column p ws (rest w room), cut-rest w room p)
+pub pour-column : (p : ℕ) (ws room : List ℕ) → column p (pour ws room) ≤ getD room p 0
+pour-column p [] room = omega arith
+pour-column p (w ∷ ws) room = omega (arith, pour-column p ws (rest w room), cut-rest w room p)
 
 module _ (p w : ℕ) (room : List ℕ) where
   -- an upper mover leaves no room below the core
@@ -82,19 +82,19 @@ module _ (p w : ℕ) (room : List ℕ) where
       )
 
 -- so no task after it is upper there
-pub passTwo-uppers : (p : ℕ) (ws room : List ℕ) → howMany (upper p) (passTwo ws room) ≤ min 1 (total (take p room))
-passTwo-uppers p [] room = omega arith
-passTwo-uppers p (w ∷ ws) room =
+pub pour-uppers : (p : ℕ) (ws room : List ℕ) → howMany (upper p) (pour ws room) ≤ min 1 (total (take p room))
+pour-uppers p [] room = omega arith
+pour-uppers p (w ∷ ws) room =
     ⊎-elim
-    (λ h. omega (arith, passTwo-uppers p ws (rest w room), rest-take w room p, upper-means p w room (h .0)))
-    (λ h. omega (arith, passTwo-uppers p ws (rest w room), rest-take w room p))
+    (λ h. omega (arith, pour-uppers p ws (rest w room), rest-take w room p, upper-means p w room (h .0)))
+    (λ h. omega (arith, pour-uppers p ws (rest w room), rest-take w room p))
     (bit-cases (upper p (cut w room)))
 
 -- nor lower
-pub passTwo-lowers : (p : ℕ) (ws room : List ℕ) → howMany (lower p) (passTwo ws room) ≤ min 1 (total (take (suc p) room))
-passTwo-lowers p [] room = omega arith
-passTwo-lowers p (w ∷ ws) room =
+pub pour-lowers : (p : ℕ) (ws room : List ℕ) → howMany (lower p) (pour ws room) ≤ min 1 (total (take (suc p) room))
+pour-lowers p [] room = omega arith
+pour-lowers p (w ∷ ws) room =
     ⊎-elim
-    (λ h. omega (arith, passTwo-lowers p ws (rest w room), rest-take w room (suc p), lower-means p w room (h .0)))
-    (λ h. omega (arith, passTwo-lowers p ws (rest w room), rest-take w room (suc p)))
+    (λ h. omega (arith, pour-lowers p ws (rest w room), rest-take w room (suc p), lower-means p w room (h .0)))
+    (λ h. omega (arith, pour-lowers p ws (rest w room), rest-take w room (suc p)))
     (bit-cases (lower p (cut w room)))

@@ -11,8 +11,9 @@ use Rattle.lists.specs.Lists.{total, most, atMost, val}
 use Rattle.lists.specs.Rows.{top}
 use Rattle.lists.proofs.Tests.{by-cases}
 use Rattle.lists.proofs.Lists.{most-ge}
-use Rattle.assignment.specs.Passes.{cut, rest, passTwo, whole, less, passes}
+use Rattle.assignment.specs.Passes.{whole, less, passes}
 use Rattle.assignment.specs.Movers.{fixedOn, movesOn}
+use Rattle.assignment.proofs.Poured.{cut, rest, pour}
 use Rattle.assignment.proofs.CutKeeps.{cut-sum}
 use Rattle.assignment.proofs.Whole.{whole-sum-le, whole-moves, whole-weighs, less-other, less-length}
 use Rattle.assignment.proofs.Passes.{passes-ind}
@@ -27,10 +28,10 @@ val-le true n = omega arith
 val-le false n = omega arith
 
 -- no row of pass two weighs more than the heaviest task
-passTwo-top : (f : List ℕ → Bool) (ws room : List ℕ) → top f (passTwo ws room) ≤ most ws
-passTwo-top f [] room = omega arith
-passTwo-top f (w ∷ ws) room =
-    omega (arith, passTwo-top f ws (rest w room), val-le (f (cut w room)) (total (cut w room)), cut-sum w room)
+pour-top : (f : List ℕ → Bool) (ws room : List ℕ) → top f (pour ws room) ≤ most ws
+pour-top f [] room = omega arith
+pour-top f (w ∷ ws) room =
+    omega (arith, pour-top f ws (rest w room), val-le (f (cut w room)) (total (cut w room)), cut-sum w room)
 
 -- and none of both passes
 passes-top : (f : List ℕ → Bool) (ws room : List ℕ) → top f (passes ws room) ≤ most ws
@@ -40,7 +41,7 @@ passes-top f =
     (λ w ws room fit ih.
     let r : List ℕ = whole w (atMost room) room in
     omega (arith, val-le (f r) (total r), whole-sum-le w (atMost room) room))
-    (λ w ws room misfit. passTwo-top f (w ∷ ws) room)
+    (λ w ws room misfit. pour-top f (w ∷ ws) room)
 
 module _ (l p : ℕ) where
   -- from an empty core p on: the first task there is fixed, and outweighs all that follow

@@ -1,7 +1,8 @@
 pub mod Examples
 pub mod Load
 pub mod Best
-pub mod Cutting
+pub mod Giving
+pub mod Poured
 pub mod Steps
 pub mod Ordered
 pub mod Words

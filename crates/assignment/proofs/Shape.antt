@@ -6,16 +6,17 @@ use native.Mathlib.Omega.{arith}
 use lib.ListN.{length, getD, set, length-set, length-replicate}
 use Rattle.lists.specs.Lists.{zeros, atMost}
 use Rattle.ordering.specs.Order.{order, inOrder}
-use Rattle.assignment.specs.Passes.{cut, rest, passTwo, passes, scatter, emptyRows, sharesOf}
+use Rattle.assignment.specs.Passes.{passes, scatter, emptyRows, sharesOf}
+use Rattle.assignment.proofs.Poured.{cut, rest, pour}
 use Rattle.assignment.proofs.Passes.{passes-ind}
 
 pub blank-length : (n m : ℕ) → length (emptyRows n m) ≡ n
 unfolding emptyRows
 blank-length n m = length-replicate n (zeros m)
 
-passTwo-length : (ws room : List ℕ) → length (passTwo ws room) ≡ length ws
-passTwo-length [] room = refl
-passTwo-length (w ∷ ws) room = ap suc (passTwo-length ws (rest w room))
+pour-length : (ws room : List ℕ) → length (pour ws room) ≡ length ws
+pour-length [] room = refl
+pour-length (w ∷ ws) room = ap suc (pour-length ws (rest w room))
 
 -- a row for each task
 pub passes-length : (ws room : List ℕ) → length (passes ws room) ≡ length ws
@@ -23,7 +24,7 @@ passes-length =
     passes-ind (λ ws room rs. length rs ≡ length ws)
     (λ room. refl)
     (λ w ws room fit ih. ap suc ih)
-    (λ w ws room misfit. passTwo-length (w ∷ ws) room)
+    (λ w ws room misfit. pour-length (w ∷ ws) room)
 
 -- each row has m numbers
 abbrev pub Wide : ℕ → List (List ℕ) → Type 0
@@ -38,9 +39,9 @@ rest-length : (n : ℕ) (rs : List ℕ) → length (rest n rs) ≡ length rs
 rest-length n [] = refl
 rest-length n (r ∷ rs) = ap suc (rest-length (n - r) rs)
 
-passTwo-wide : (m : ℕ) (ws room : List ℕ) → length room ≡ m → Wide m (passTwo ws room)
-passTwo-wide m [] room e = tt
-passTwo-wide m (w ∷ ws) room e = (cut-length w room ∙ e, passTwo-wide m ws (rest w room) (rest-length w room ∙ e))
+pour-wide : (m : ℕ) (ws room : List ℕ) → length room ≡ m → Wide m (pour ws room)
+pour-wide m [] room e = tt
+pour-wide m (w ∷ ws) room e = (cut-length w room ∙ e, pour-wide m ws (rest w room) (rest-length w room ∙ e))
 
 -- a number in it for each core
 pub passes-wide : (m : ℕ) (ws room : List ℕ) → length room ≡ m → Wide m (passes ws room)
@@ -52,7 +53,7 @@ passes-wide m =
       length-set (zeros (length room)) q w ∙ length-replicate (length room) 0 ∙ e,
       ih (length-set room q (getD room q 0 - w) ∙ e),
     ))
-    (λ w ws room misfit e. passTwo-wide m (w ∷ ws) room e)
+    (λ w ws room misfit e. pour-wide m (w ∷ ws) room e)
 
 scatter-length : (ts : List ℕ) (rs tab : List (List ℕ)) → length (scatter ts rs tab) ≡ length tab
 scatter-length [] rs tab = refl

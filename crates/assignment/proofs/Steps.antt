@@ -1,7 +1,7 @@
 -- Both passes over tasks that stand in order: what is left to do gives the same table, one task less.
 use Prim.Native.Nat.{ℕ, zero, suc, _+_, _-_, _≤_, _<_}
 use mathlib.Core.Path.{_≡_, refl, ap, _∙_}
-use mathlib.Core.List.{List, [], _∷_}
+use mathlib.Core.List.{List, [], _∷_, _++_}
 use native.Mathlib.Omega.{arith}
 use native.Mathlib.Numerals.{add-one}
 use lib.ListN.{length, getD, take, set, drop-of-length-le}
@@ -13,7 +13,7 @@ use Rattle.units.specs.Limits.{coresLimit}
 use Rattle.units.specs.Units.{nums}
 use Rattle.ordering.specs.declared.Order.{Order}
 use Rattle.assignment.specs.declared.Row.{Row}
-use Rattle.assignment.specs.Passes.{cut, rest, rowsOf}
+use Rattle.assignment.specs.Passes.{give, behind, onward, rowsOf}
 use Rattle.assignment.specs.Inner.{assignTwo, assign, from, Among}
 
 -- a row stored
@@ -46,13 +46,13 @@ module _ (o : Order) (a : Among o) (i : ℕ) where
 
   module _ (ws room : List ℕ) (tab : List (List ℕ)) where
     -- the next task in pass two
-    pub two-next : (t w : ℕ) → i < o .count → t ≡ getD (o .tasks) i 0 → w ≡ getD ws t 0
-        → assignTwo ws (from o (i + 1)) (rest w room) (set tab t (cut w room)) ≡ assignTwo ws (from o i) room tab
-    two-next t w h e f = rw (from-next h, f, e)
+    pub two-next : (p t w : ℕ) → i < o .count → t ≡ getD (o .tasks) i 0 → w ≡ getD ws t 0
+        → assignTwo (p + behind w room) ws (from o (i + 1)) (onward w room) (set tab t (zeros p ++ give w room)) ≡ assignTwo p ws (from o i) room tab
+    two-next p t w h e f = rw (from-next h, f, e)
 
     -- no task is left for it
-    pub two-end : o .count ≤ i → assignTwo ws (from o i) room tab ≡ tab
-    two-end h = rw (from-end h)
+    pub two-end : (p : ℕ) → o .count ≤ i → assignTwo p ws (from o i) room tab ≡ tab
+    two-end p h = rw (from-end h)
 
     -- the next task in pass one: it fits on the roomiest core
     pub one-next : (t w p v : ℕ) → length room ≡ coresLimit → i < o .count → t ≡ getD (o .tasks) i 0 → w ≡ getD ws t 0 → p ≡ atMost room → w ≤ getD room p 0
@@ -62,7 +62,7 @@ module _ (o : Order) (a : Among o) (i : ℕ) where
 
     -- it does not fit: pass two from here on
     pub misfit : (t w p : ℕ) → i < o .count → t ≡ getD (o .tasks) i 0 → w ≡ getD ws t 0 → p ≡ atMost room → getD room p 0 < w
-        → assignTwo ws (from o i) room tab ≡ assign ws (from o i) room tab
+        → assignTwo 0 ws (from o i) room tab ≡ assign ws (from o i) room tab
     misfit t w p h e f g over =
         rw (from-next h, ← e, ← f, lt-leb w (most room) (omega (arith, core-room room p g)))
 

@@ -12,9 +12,9 @@ use Rattle.assignment.specs.Passes.{passTwo, passes, scatter}
 abbrev pub weigh : List ℕ → List ℕ → List ℕ
 weigh ws ts = map (λ (t : ℕ). getD ws t 0) ts
 
--- pass two alone
-abbrev pub assignTwo : List ℕ → List ℕ → List ℕ → List (List ℕ) → List (List ℕ)
-assignTwo ws ts room tab = scatter ts (passTwo (weigh ws ts) room) tab
+-- pass two alone, with the pointer at core p
+abbrev pub assignTwo : ℕ → List ℕ → List ℕ → List ℕ → List (List ℕ) → List (List ℕ)
+assignTwo p ws ts room tab = scatter ts (passTwo p (weigh ws ts) room) tab
 
 -- both passes
 abbrev pub assign : List ℕ → List ℕ → List ℕ → List (List ℕ) → List (List ℕ)

@@ -32,7 +32,7 @@ byLoad l [] loads = []
 byLoad l (w ∷ ws) loads =
     cond (leb (getD loads (atLeast loads) 0 + w) l)
     (whole w (atLeast loads) loads ∷ byLoad l ws (set loads (atLeast loads) (getD loads (atLeast loads) 0 + w)))
-    (passTwo (w ∷ ws) (roomOf l loads))
+    (passTwo 0 (w ∷ ws) (roomOf l loads))
 
 -- the loads at the start: m cores have none, the others are full
 abbrev pub loadsOf : ℕ → ℕ → List ℕ

@@ -1,8 +1,8 @@
 -- The two passes of assignment. A core's room is what it has left of L; tasks and cores are counted from 0.
-use Prim.Native.Nat.{ℕ, _-_, min}
+use Prim.Native.Nat.{ℕ, suc, _+_, _-_, min}
 use mathlib.Core.Bool.{cond}
 use mathlib.Core.List.{List, [], _∷_, _++_, map}
-use lib.Dec.{leb}
+use lib.Dec.{ltb, leb}
 use lib.ListN.{length, getD, set, replicate}
 use Rattle.units.specs.Limits.{coresLimit}
 use Rattle.units.specs.Units.{nums}
@@ -18,20 +18,25 @@ whole w p room = set (zeros (length room)) p w
 abbrev pub less : ℕ → ℕ → List ℕ → List ℕ
 less w p room = set room p (getD room p 0 - w)
 
--- pass two: of each core in turn the smaller of what the task still needs and what the core has left
-abbrev pub cut : ℕ → List ℕ → List ℕ
-cut n [] = []
-cut n (r ∷ rs) = min n r ∷ cut (n - r) rs
+-- pass two: of each core from the pointer on a task is given the smaller of what it still needs and what the core has left
+abbrev pub give : ℕ → List ℕ → List ℕ
+give n [] = []
+give n (r ∷ rs) = min n r ∷ cond (ltb r n) (give (n - r) rs) (zeros (length rs))
 
--- and what each core has left then; a full core gives nothing to any later task
-abbrev pub rest : ℕ → List ℕ → List ℕ
-rest n [] = []
-rest n (r ∷ rs) = (r - n) ∷ rest (n - r) rs
+-- how many full cores are left for the next one: the task still needs more than they have left
+abbrev pub behind : ℕ → List ℕ → ℕ
+behind n [] = 0
+behind n (r ∷ rs) = cond (ltb r n) (suc (behind (n - r) rs)) 0
 
--- the shares of tasks of these weights in pass two
-abbrev pub passTwo : List ℕ → List ℕ → List (List ℕ)
-passTwo [] room = []
-passTwo (w ∷ ws) room = cut w room ∷ passTwo ws (rest w room)
+-- and what the cores have left from the pointer on then: those left behind are never looked at again
+abbrev pub onward : ℕ → List ℕ → List ℕ
+onward n [] = []
+onward n (r ∷ rs) = cond (ltb r n) (onward (n - r) rs) ((r - n) ∷ rs)
+
+-- the shares of tasks of these weights in pass two, with the pointer at core p and this room from there on
+abbrev pub passTwo : ℕ → List ℕ → List ℕ → List (List ℕ)
+passTwo p [] room = []
+passTwo p (w ∷ ws) room = (zeros p ++ give w room) ∷ passTwo (p + behind w room) ws (onward w room)
 
 -- the shares in both passes: wholly to the core with the most room, lowest number at a tie; from the first misfit on pass two
 abbrev pub passes : List ℕ → List ℕ → List (List ℕ)
@@ -39,7 +44,7 @@ passes [] room = []
 passes (w ∷ ws) room =
     cond (leb w (most room))
     (whole w (atMost room) room ∷ passes ws (less w (atMost room) room))
-    (passTwo (w ∷ ws) room)
+    (passTwo 0 (w ∷ ws) room)
 
 -- each row put at its task's number
 abbrev pub scatter : List ℕ → List (List ℕ) → List (List ℕ) → List (List ℕ)

@@ -10,7 +10,7 @@ use units::share::Share;
 ghost use mathlib.Core.Path.{_≡_};
 ghost use Rattle.lists.specs.Lists.{atMost};
 ghost use Rattle.units.specs.Units.{nums};
-ghost use Rattle.assignment.specs.Passes.{cut as cutOf, rest as restOf, sharesOf, rowsOf};
+ghost use Rattle.assignment.specs.Passes.{sharesOf, rowsOf};
 ghost use Rattle.assignment.specs.Inner.{assignTwo, assign, from, Among};
 
 // A number for each core: one task's shares, or the cores' room.
@@ -23,45 +23,20 @@ fn roomiest(room: Row) -> usize
     ensures { λ r. ⌜ r ≡ atMost (nums (room .shares)) ⌝ }
 {
     let mut best: usize = 0;
+    let mut most = room.shares[0];
     let mut p: usize = 1;
     while p < CORES {
-        let most = room.shares[best];
         let here = room.shares[p];
         if most.0 < here.0 {
             best = p;
+            most = here;
         }
         p += 1;
     }
     best
 }
 
-// What a task of pass two is given of each core, and what each core has left.
-struct Handed {
-    row: Row,
-    room: Row,
-}
-
-fn cut(weight: Share, room: Row) -> Handed
-    ensures { λ r. ⌜ (nums (r .row .shares) ≡ cutOf (weight .0) (nums (room .shares))) × (nums (r .room .shares) ≡ restOf (weight .0) (nums (room .shares))) ⌝ }
-{
-    let mut row = [Share::EMPTY; CORES];
-    let mut left = room.shares;
-    let mut need = weight;
-    let mut p: usize = 0;
-    while p < CORES {
-        let have = left[p];
-        row[p] = need.smaller(have);
-        left[p] = have.rest(need);
-        need = need.rest(have);
-        p += 1;
-    }
-    Handed {
-        row: Row { shares: row },
-        room: Row { shares: left },
-    }
-}
-
-// Pass two, from the k-th task of the order on.
+// Pass two, from the k-th task of the order on: a full core is left for the next one and never looked at again.
 fn pass_two(
     order: Order,
     k: usize,
@@ -70,18 +45,26 @@ fn pass_two(
     rows: [Row; TASKS],
 ) -> [Row; TASKS]
     requires { ⌜ Among order ⌝ }
-    ensures { λ r. ⌜ rowsOf r ≡ assignTwo (nums weights) (from order k) (nums (room .shares)) (rowsOf rows) ⌝ }
+    ensures { λ r. ⌜ rowsOf r ≡ assignTwo 0 (nums weights) (from order k) (nums (room .shares)) (rowsOf rows) ⌝ }
 {
     let mut table = rows;
-    let mut left = room;
+    let mut left = room.shares;
+    let mut p: usize = 0;
     let mut i = k;
     while i < order.count {
         let t = order.tasks[i];
-        let w = weights[t];
-        let given = cut(w, left);
-        let row = given.row;
-        table[t] = row;
-        left = given.room;
+        let mut need = weights[t];
+        let mut row = [Share::EMPTY; CORES];
+        while (0 < need.0) & (p < CORES) {
+            let have = left[p];
+            row[p] = need.smaller(have);
+            left[p] = have.rest(need);
+            need = need.rest(have);
+            if 0 < need.0 {
+                p += 1;
+            }
+        }
+        table[t] = Row { shares: row };
         i += 1;
     }
     table

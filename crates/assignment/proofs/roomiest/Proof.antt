@@ -1,6 +1,6 @@
 -- `assignment::roomiest` meets its contract.
 use Prim.Native.Nat.{_≤_, _-_}
-use mathlib.Core.Path.{_≡_}
+use mathlib.Core.Path.{_≡_, sym}
 use mathlib.Core.Logic.{⊎-elim}
 use native.Mathlib.Omega.{arith}
 use borrow.Author.Needs.{needs}
@@ -13,19 +13,17 @@ use Rattle.assignment.proofs.roomiest.Statement.{statement}
 use Rattle.assignment.proofs.roomiest.Tie as tie
 
 abbrev Inv-loop : tie.InvT-loop
-Inv-loop room best₀ p₀ best p = (length (nums (room .shares)) ≡ coresLimit) × (p ≤ coresLimit) × Best (nums (room .shares)) best p
+Inv-loop room best₀ most₀ p₀ best most p =
+    (length (nums (room .shares)) ≡ coresLimit) × (p ≤ coresLimit) × Best (nums (room .shares)) best (most .0) p
 
 abbrev μ-loop : tie.MeasureT-loop
-μ-loop room best₀ p₀ best p = coresLimit - p
-
-loop-holds : tie.Need-loop-holds Inv-loop μ-loop
-loop-holds c = (search (needs, field-long), omega arith, first _)
-
-mul-most : tie.Need-mul-most Inv-loop μ-loop
-mul-most c = search needs
+μ-loop room best₀ most₀ p₀ best most p = coresLimit - p
 
 element-copy-out-most : tie.Need-element-copy-out-most Inv-loop μ-loop
 element-copy-out-most c = search needs
+
+loop-holds : tie.Need-loop-holds Inv-loop μ-loop
+loop-holds c = (search (needs, field-long), omega arith, first _ _ (sym (nums-at (c .before .args .t1 .shares) 0)))
 
 mul-here : tie.Need-mul-here Inv-loop μ-loop
 mul-here c = search needs
@@ -42,19 +40,18 @@ loop-less c = search needs
 loop-again : tie.Need-loop-again Inv-loop μ-loop
 loop-again c =
     let s = c .before .before .before .before .before .before .before .args .t1 .shares in
-    let at = c .before .before .before .before .before .before .loop in
-    let best = nums-at s (at .best) in
+    let at = c .before .before .before .before .before .loop in
     let here = nums-at s (at .p) in (
       at .inv .0,
       omega arith,
       ⊎-elim
-          (λ w. rw (w .1) (better _ _ _ (at .inv .2) (omega arith) (omega arith)))
-          (λ w. rw (w .1) (kept _ _ _ (at .inv .2) (omega arith) (omega arith)))
+          (λ w. rw (w .1, w .2) (better _ _ _ _ (at .inv .2) (omega arith) _ (sym here) (omega arith)))
+          (λ w. rw (w .1, w .2) (kept _ _ _ _ (at .inv .2) (omega arith) (omega arith)))
           (c .if1 .came),
     )
 
 returns : tie.Need-returns Inv-loop μ-loop
-returns c = last _ _ _ (c .before .loop .inv .2) (omega arith)
+returns c = last _ _ _ _ (c .before .loop .inv .2) (omega arith)
 
 pub roomiest-spec : {M : Type 1} → statement M
 roomiest-spec =
@@ -62,9 +59,8 @@ roomiest-spec =
     (tie.spec
     Inv-loop
     μ-loop
-    loop-holds
-    mul-most
     element-copy-out-most
+    loop-holds
     mul-here
     element-copy-out-here
     add-p
