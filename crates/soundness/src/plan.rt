@@ -2,7 +2,7 @@
 use crate::cores::cores_sound;
 use crate::lines::line_empty;
 use crate::lines::line_sound;
-use crate::tally::tallies_of;
+use crate::sums::Sums;
 use arith::divisor::gcd;
 use planning::Plan;
 use units::limits::COMMON;
@@ -43,13 +43,16 @@ fn divisor_with(divisor: u32, common: u32, period: u32) -> u32
     gcd(divisor, common / period)
 }
 
-// The rules for all tasks.
-fn tasks_sound(plan: Plan) -> bool
-    requires { ⌜ numbersIn plan ≡ true ⌝ }
-    ensures { λ r. ⌜ r ≡ (allBelow tasksLimit (lineOk plan) && commonIs plan) ⌝ }
+// From the last task to the first, so that the sums grow as the table of shares does.
+pub fn plan_sound(plan: Plan) -> bool
+    ensures { λ r. ⌜ r ≡ planSound plan ⌝ }
 {
+    if !numbers_in(plan) {
+        return false;
+    }
     let common = plan.common;
     let count = plan.count;
+    let mut sums = Sums::NONE;
     let mut divisor: u32 = 0;
     let mut i: usize = TASKS;
     while 0 < i {
@@ -63,25 +66,13 @@ fn tasks_sound(plan: Plan) -> bool
             if divisor == 0 {
                 return false;
             }
+            let more = sums.with_line(line);
+            sums = more;
         } else {
             if !line_empty(line) {
                 return false;
             }
         }
     }
-    divisor == 1
-}
-
-pub fn plan_sound(plan: Plan) -> bool
-    ensures { λ r. ⌜ r ≡ planSound plan ⌝ }
-{
-    if !numbers_in(plan) {
-        return false;
-    }
-    if !tasks_sound(plan) {
-        return false;
-    }
-    let lines = plan.lines;
-    let tallies = tallies_of(lines);
-    cores_sound(tallies, plan.cores, plan.common)
+    (divisor == 1) & cores_sound(sums, plan.cores, common)
 }
