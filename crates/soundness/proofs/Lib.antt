@@ -1,6 +1,7 @@
 pub mod Added
 pub mod Passed
 pub mod Summed
+pub mod Numbers
 pub mod Ranges
 pub mod Tasks
 pub mod Whole

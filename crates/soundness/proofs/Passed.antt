@@ -2,7 +2,7 @@
 use Prim.Native.Nat.{ℕ, _+_, _*_, _≤_, _<_, max}
 use mathlib.Core.Path.{_≡_, refl, sym, ap, _∙_}
 use mathlib.Core.Bool.{true, false}
-use mathlib.Core.List.{List, _∷_}
+use mathlib.Core.List.{List}
 use native.Mathlib.Omega.{arith}
 use lib.Dec.{ltb, eqb}
 use lib.ListN.{length, getD, set}
@@ -12,14 +12,14 @@ use Rattle.units.specs.Limits.{coresLimit, tasksLimit, commonLimit}
 use Rattle.units.specs.declared.share.Share.{Share}
 use Rattle.units.specs.Units.{share, nums}
 use Rattle.units.proofs.Units.{nums-at}
-use Rattle.lists.specs.Lists.{total, parts, bit, val}
+use Rattle.lists.specs.Lists.{total, bit, val}
 use Rattle.lists.proofs.Tests.{by-cases}
-use Rattle.lists.proofs.Lists.{getD-le-sum, parts-le}
+use Rattle.lists.proofs.Lists.{getD-le-sum}
 use Rattle.lists.proofs.Filled.{Stored, stored-none, store-next, store-skip}
 use Rattle.assignment.specs.Movers.{moves, firstCore}
 use Rattle.soundness.specs.declared.sums.Sums.{Sums}
-use Rattle.soundness.specs.Inner.{loadAt, fixedAt, moversAt, firstsAt, heaviestAt, SumsAt, OneMore, AtMostAllTasks}
-use Rattle.soundness.proofs.Added.{fixed-adds, mover-adds}
+use Rattle.soundness.specs.Inner.{loadAt, fixedAt, moversAt, firstsAt, heaviestAt, OneMore, AtMostAllTasks}
+use Rattle.soundness.proofs.Added.{fixed-more, mover-more}
 
 -- the share on core q
 abbrev pub shareAt : List Share → ℕ → ℕ
@@ -36,26 +36,6 @@ next-share : (f : ℕ → ℕ) (g : ℕ → ℕ → ℕ) (old now : List Share) 
 next-share f g old now p v k h e =
     store-next (share 0) coresLimit (λ q. share (g (getD old q (share 0) .0) (f q))) old 0 p now v k h
     (ap share e ∙ ap (λ (s : Share). share (g (s .0) (f p))) (k .above p (omega arith)))
-
--- a core with a fixed task more
-with-fixed : (row : List ℕ) (tab : List (List ℕ)) (old now : Sums) (q : ℕ) → moves row ≡ false → SumsAt tab old q
-    → loadAt now q ≡ loadAt old q + getD row q 0 → fixedAt now q ≡ max (fixedAt old q) (getD row q 0)
-    → moversAt now q ≡ moversAt old q → firstsAt now q ≡ firstsAt old q → heaviestAt now q ≡ heaviestAt old q → SumsAt (row ∷ tab) now q
-with-fixed row tab old now q e s l f m n h =
-    let a = fixed-adds q row e in
-    record {
-      load = omega (arith, l, s .load);
-      fixed = omega (arith, f, a .fixed, s .fixed);
-      movers = rw (a .movers) (omega (arith, m, s .movers));
-      firsts = rw (a .firsts) (omega (arith, n, s .firsts));
-      heaviest = rw (a .movers) (omega (arith, h, s .heaviest));
-    }
-
--- a row without a share adds nothing
-pub none-more : (row : List ℕ) (s : Sums) → total row ≡ 0 → OneMore row s s
-none-more row s z tab k q h =
-    let none : getD row q 0 ≡ 0 = omega (arith, z, getD-le-sum row q) in
-    with-fixed row tab s s q (le-ltb 1 (parts row) (omega (arith, z, parts-le row))) (k q h) (omega (arith, none)) (omega (arith, none)) refl refl refl
 
 module _ (row : List Share) (old : Sums) where
   -- the loads with its shares
@@ -105,12 +85,13 @@ module _ (row : List Share) (old : Sums) where
 
   -- all cores
   pub fixed-done : (now : Sums) → FixedPassed coresLimit now → moves (nums row) ≡ false → OneMore (nums row) old now
-  fixed-done now k e tab s q h =
-      let at = nums-at row q in
-      let l : loadAt now q ≡ loadAt old q + shareAt row q = ap (λ (x : Share). x .0) (k .loads .done q (omega arith) h) in
-      let f : fixedAt now q ≡ max (fixedAt old q) (shareAt row q) = ap (λ (x : Share). x .0) (k .fixed .done q (omega arith) h) in
-      with-fixed (nums row) tab old now q e (s q h) (omega (arith, l, at)) (omega (arith, f, at))
-      (rw (k .movers)) (rw (k .firsts)) (rw (k .heaviest))
+  fixed-done now k e tab was q h =
+      fixed-more (nums row) tab old now q e (was q h)
+      (rw (nums-at row q) (ap (λ (s : Share). s .0) (k .loads .done q (omega arith) h)))
+      (rw (nums-at row q) (ap (λ (s : Share). s .0) (k .fixed .done q (omega arith) h)))
+      (ap (λ (ns : List ℕ). getD ns q 0) (k .movers))
+      (ap (λ (ns : List ℕ). getD ns q 0) (k .firsts))
+      (ap (λ (ss : List Share). getD ss q (share 0) .0) (k .heaviest))
 
   -- the counts of movers with it
   abbrev pub MoversPassed : ℕ → List ℕ → Type 0
@@ -188,7 +169,7 @@ withFirst f s = record {
 }
 
 -- it is counted there
-first-counted : (f q : ℕ) (s : Sums) → f < length (s .firsts) → firstsAt (withFirst f s) q ≡ bit (eqb f q) + firstsAt s q
+first-counted : (f q : ℕ) (s : Sums) → f < length (s .firsts) → firstsAt (withFirst f s) q ≡ firstsAt s q + bit (eqb f q)
 first-counted f q s h =
     by-cases (eqb f q)
     (λ t. rw (t, ← (eqb-true f q t)) (getD-set-same (s .firsts) f (firstsAt s f + 1) 0 h ∙ omega arith))
@@ -197,17 +178,10 @@ first-counted f q s h =
 -- all cores
 pub mover-done : (row : List Share) (s now : Sums) → MoverPassed row (withFirst (firstCore (nums row)) s) (total (nums row)) coresLimit now
     → moves (nums row) ≡ true → firstCore (nums row) < length (s .firsts) → OneMore (nums row) s now
-mover-done row s now k e l tab at q h =
-    let a = mover-adds (nums row) e q in
-    let here = nums-at row q in
-    let was = at q h in
-    let x : loadAt now q ≡ loadAt s q + shareAt row q = ap (λ (x : Share). x .0) (k .loads .done q (omega arith) h) in
-    let y : heaviestAt now q ≡ max (heaviestAt s q) (val (ltb 0 (shareAt row q)) (total (nums row))) = ap (λ (x : Share). x .0)
-    (k .heaviest .done q (omega arith) h) in
-    record {
-      load = omega (arith, x, here, was .load);
-      fixed = rw (k .fixed, a .fixed) (omega (arith, was .fixed));
-      movers = rw (a .movers, here) (omega (arith, k .movers .done q (omega arith) h, was .movers));
-      firsts = rw (k .firsts, a .firsts) (omega (arith, first-counted (firstCore (nums row)) q s l, was .firsts));
-      heaviest = rw (a .movers, here) (omega (arith, y, was .heaviest));
-    }
+mover-done row s now k e l tab was q h =
+    mover-more (nums row) tab s now q e (was q h)
+    (rw (nums-at row q) (ap (λ (s : Share). s .0) (k .loads .done q (omega arith) h)))
+    (ap (λ (ss : List Share). getD ss q (share 0) .0) (k .fixed))
+    (rw (nums-at row q) (k .movers .done q (omega arith) h))
+    (ap (λ (ns : List ℕ). getD ns q 0) (k .firsts) ∙ first-counted (firstCore (nums row)) q s l)
+    (rw (nums-at row q) (ap (λ (s : Share). s .0) (k .heaviest .done q (omega arith) h)))

@@ -22,7 +22,9 @@ use Rattle.planning.specs.Kept.{PlanKept}
 use Rattle.soundness.specs.Rules.{lineEmpty, coreWithin, fewMovers, oneFirst, guarded}
 use Rattle.soundness.specs.Plan.{planSound}
 use Rattle.planning.specs.Shape.{PlanShaped}
-use Rattle.soundness.proofs.Facts.{ruled, Numbers, numbers}
+use Rattle.soundness.proofs.Numbers.{Numbers, numbers}
+use Rattle.soundness.proofs.Facts.{ruled}
+use Rattle.soundness.proofs.Ranges.{empty-zero}
 use Rattle.soundness.proofs.Lined.{lined}
 
 -- what is known of any line, of a task or empty
@@ -34,17 +36,8 @@ record Bounded (ln : Line) : Type 0 where
 -- the line of no task
 empty-bounded : (ln : Line) → lineEmpty ln ≡ true → Bounded ln
 empty-bounded ln e =
-    let a = eqb (ln .cost .0) 0 in
-    let b = eqb (ln .period .0) 0 in
-    let c = eqb (ln .weight .0) 0 in
-    let d = eqb (total (rowOf ln)) 0 in
-    let abc = and-left (a && b && c) d e in
-    let ab = and-left (a && b) c abc in
-    record {
-      shares = omega (arith, eqb-true (total (rowOf ln)) 0 (and-right (a && b && c) d e), eqb-true (ln .weight .0) 0 (and-right (a && b) c abc));
-      cost = omega (arith, eqb-true (ln .cost .0) 0 (and-left a b ab));
-      period = omega (arith, eqb-true (ln .period .0) 0 (and-right a b ab));
-    }
+    let z = empty-zero ln e in
+    record { shares = omega (arith, z .shares, z .weight); cost = omega (arith, z .cost); period = omega (arith, z .period) }
 
 -- no row reaches core p
 column-none : (p : ℕ) (tab : List (List ℕ)) → ((i : ℕ) → i < length tab → length (getD tab i []) ≤ p) → column p tab ≡ 0

@@ -9,12 +9,9 @@ use units::limits::COMMON;
 use units::limits::CORES;
 use units::limits::TASKS;
 ghost use mathlib.Core.Path.{_≡_};
-ghost use mathlib.Core.Bool.{true, _&&_};
 ghost use Prim.Native.Nat.{_<_};
-ghost use Rattle.units.specs.Limits.{tasksLimit};
-ghost use Rattle.soundness.specs.Rules.{numbersIn, commonIs};
-ghost use Rattle.lists.specs.Below.{allBelow};
-ghost use Rattle.soundness.specs.Plan.{lineOk, planSound};
+ghost use Rattle.soundness.specs.Rules.{numbersIn};
+ghost use Rattle.soundness.specs.Plan.{planSound};
 ghost use Rattle.soundness.specs.Inner.{divisorWith};
 
 // Cores, tasks and the common period are in their ranges.
@@ -43,7 +40,7 @@ fn divisor_with(divisor: u32, common: u32, period: u32) -> u32
     gcd(divisor, common / period)
 }
 
-// From the last task to the first, so that the sums grow as the table of shares does.
+// In one pass over the lines, from the last to the first: so the definitions fold the table of shares.
 pub fn plan_sound(plan: Plan) -> bool
     ensures { λ r. ⌜ r ≡ planSound plan ⌝ }
 {
@@ -66,8 +63,8 @@ pub fn plan_sound(plan: Plan) -> bool
             if divisor == 0 {
                 return false;
             }
-            let more = sums.with_line(line);
-            sums = more;
+            let next = sums.with_line(line);
+            sums = next;
         } else {
             if !line_empty(line) {
                 return false;

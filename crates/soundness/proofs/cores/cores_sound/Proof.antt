@@ -1,15 +1,24 @@
 -- `soundness::cores::cores_sound` meets its contract: the cores that are passed are sound or not.
-use Prim.Native.Nat.{_-_, _≤_}
-use mathlib.Core.Path.{_≡_, refl, sym, ap₂, _∙_}
-use mathlib.Core.Bool.{_&&_}
+use Prim.Native.Nat.{ℕ, _+_, _-_, _≤_}
+use mathlib.Core.Path.{_≡_, refl, sym}
+use mathlib.Core.Bool.{Bool, _&&_, _||_, not}
 use native.Mathlib.Omega.{arith}
+use lib.Dec.{ltb, leb, eqb}
 use borrow.Author.Needs.{needs}
 use Rattle.units.specs.Limits.{coresLimit}
 use Rattle.lists.specs.Below.{allBelow}
 use Rattle.lists.proofs.Below.{all-suc}
-use Rattle.soundness.specs.Inner.{sumsSound}
+use Rattle.soundness.specs.declared.sums.Sums.{Sums}
+use Rattle.soundness.specs.Inner.{loadAt, fixedAt, moversAt, firstsAt, heaviestAt, sumsSound}
 use Rattle.soundness.proofs.cores.cores_sound.Statement.{statement}
 use Rattle.soundness.proofs.cores.cores_sound.Tie as tie
+
+-- one core more, by its four rules
+core-more : (m l : ℕ) (s : Sums) (p : ℕ) (within few one guard passed : Bool)
+    → within ≡ (leb (loadAt s p) l && (ltb p m || eqb (loadAt s p) 0)) → few ≡ leb (moversAt s p) 2
+    → one ≡ (not (eqb (moversAt s p) 2) || eqb (firstsAt s p) 1) → guard ≡ leb (heaviestAt s p) (fixedAt s p)
+    → passed ≡ allBelow p (sumsSound m l s) → (within && few && one && guard && passed) ≡ allBelow (p + 1) (sumsSound m l s)
+core-more m l s p within few one guard passed a b c d e = rw (a, b, c, d, e) (sym (all-suc (sumsSound m l s) p))
 
 abbrev Inv-loop : tie.InvT-loop
 Inv-loop cores common sums sound₀ p₀ sound p = (p ≤ coresLimit) × (sound ≡ allBelow p (sumsSound cores common sums))
@@ -72,10 +81,11 @@ loop-less c = search needs
 loop-again : tie.Need-loop-again Inv-loop μ-loop
 loop-again c =
     let at = c .before .before .before .before .before .before .before .before .before .before in
-    let s = at .before .args in
-    let few = ap₂ _&&_ (c .before .before .before .core-within .ensures) (c .before .before .few-movers .ensures) in
-    let rules = ap₂ _&&_ (ap₂ _&&_ few (c .before .one-first .ensures)) (c .guarded .ensures) in
-    (omega arith, ap₂ _&&_ rules (at .loop .inv .1) ∙ sym (all-suc (sumsSound (s .cores) (s .common) (s .t1)) (at .loop .p)))
+    let s = at .before .args in (
+      omega arith,
+      core-more (s .cores) (s .common) (s .t1) (at .loop .p) _ _ _ _ _ (c .before .before .before .core-within .ensures)
+          (c .before .before .few-movers .ensures) (c .before .one-first .ensures) (c .guarded .ensures) (at .loop .inv .1),
+    )
 
 returns : tie.Need-returns Inv-loop μ-loop
 returns c =

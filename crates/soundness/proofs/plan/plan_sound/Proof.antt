@@ -10,9 +10,10 @@ use Rattle.planning.specs.declared.Line.{Line}
 use Rattle.planning.specs.Plan.{noLine, rowOf}
 use Rattle.soundness.specs.Rules.{numbersIn}
 use Rattle.soundness.specs.Plan.{lineSound}
+use Rattle.soundness.proofs.Numbers.{Numbers, numbers}
 use Rattle.soundness.proofs.Ranges.{InRange, in-range, sound-in, sound-sum, sound-small, empty-zero}
-use Rattle.soundness.proofs.Tasks.{Numbers, numbers, Checked, start, period-breaks, task-breaks, task-more, past-breaks, past-more, finish}
-use Rattle.soundness.proofs.Passed.{none-more}
+use Rattle.soundness.proofs.Tasks.{Checked, start, period-breaks, task-breaks, task-more, past-breaks, past-more, finish}
+use Rattle.soundness.proofs.Added.{none-more}
 use Rattle.soundness.proofs.Summed.{Summed, at-most-all, more}
 use Rattle.soundness.proofs.Summed as summed
 use Rattle.soundness.proofs.Whole.{numbers-break, tasks-break, others-decide}
@@ -37,9 +38,10 @@ ranges : (c : tie.Else1 Inv-loop μ-loop) → numbersIn (c .before .before .args
 ranges c = sym (c .before .numbers-in .ensures) ∙ not-false (c .before .numbers-in .result) (c .if1 .left)
 
 known : (c : tie.Else1 Inv-loop μ-loop) → Numbers (c .before .before .args .t1)
-known c =
-    let s = c .before .before in
-    numbers (s .args .t1) (ranges c) (sym (length-map (s .args .t1 .lines) _) ∙ s .good .0 .1 .1 .1 .1 .1 .0 .1 .0 .1)
+known c = numbers (c .before .before .args .t1) (ranges c)
+
+long : (c : tie.Else1 Inv-loop μ-loop) → length (c .before .before .args .t1 .lines) ≡ tasksLimit
+long c = sym (length-map (c .before .before .args .t1 .lines) _) ∙ c .before .before .good .0 .1 .1 .1 .1 .1 .0 .1 .0 .1
 
 -- the line that is tested, and the invariant there
 abbrev lineOf : tie.In-loop Inv-loop μ-loop → Line
@@ -56,7 +58,9 @@ tested c =
     rw e (c .before .loop .inv)
 
 loop-holds : tie.Need-loop-holds Inv-loop μ-loop
-loop-holds c = let n = known c in (start (c .before .before .args .t1) n, summed.start (c .before .before .args .t1) (n .long))
+loop-holds c =
+    let pl = c .before .before .args .t1 in
+    (start pl (known c) (long c), summed.start pl (long c))
 
 sub-i : tie.Need-sub-i Inv-loop μ-loop
 sub-i c = omega arith
@@ -74,7 +78,7 @@ returns-2 : tie.Need-returns-2 Inv-loop μ-loop
 returns-2 c =
     let l = c .before .before .before .before in
     let pl = l .before .before .before .before .args .t1 in
-    sym (tasks-break pl (task-breaks pl (known (l .before .before)) (l .before .loop .divisor) (l .before .loop .i - 1) (tested l .0)
+    sym (tasks-break pl (task-breaks pl (known (l .before .before)) (long (l .before .before)) (l .before .loop .divisor) (l .before .loop .i - 1) (tested l .0)
     (c .before .before .if2 .taken)
     (sym (c .before .line-sound .ensures) ∙ not-true (c .before .line-sound .result) (c .if3 .taken))))
 
@@ -99,7 +103,7 @@ returns-3 : tie.Need-returns-3 Inv-loop μ-loop
 returns-3 c =
     let l = c .before .before .before .before .before .before .before in
     let pl = l .before .before .before .before .args .t1 in
-    sym (tasks-break pl (period-breaks pl (known (l .before .before)) (l .before .loop .divisor) (l .before .loop .i - 1)
+    sym (tasks-break pl (period-breaks pl (known (l .before .before)) (long (l .before .before)) (l .before .loop .divisor) (l .before .loop .i - 1)
     (c .before .before .before .before .before .if2 .taken)
     (sym (c .before .divisor-with .ensures) ∙ c .if4 .taken)))
 
@@ -109,7 +113,7 @@ with-line-requires c κs =
     let l = e .before .before .before .before in
     let pl = l .before .before .before .before .args .t1 in
     let n = known (l .before .before) in (
-      at-most-all pl (n .long) (l .before .loop .sums) (l .before .loop .i) (l .before .loop .inv .1),
+      at-most-all pl (long (l .before .before)) (l .before .loop .sums) (l .before .loop .i) (l .before .loop .inv .1),
       sound-sum (pl .common) (lineOf l) (sound e),
       omega (arith, sound-small (pl .common) (lineOf l) (sound e), n .common-small),
     )
@@ -124,9 +128,9 @@ loop-again c =
     let pl = l .before .before .before .before .args .t1 in
     let n = known (l .before .before) in
     let d = c .before .before .divisor-with in (
-      task-more pl n (l .before .loop .divisor) (l .before .loop .i - 1) (tested l .0) (e .before .before .if2 .taken)
+      task-more pl n (long (l .before .before)) (l .before .loop .divisor) (l .before .loop .i - 1) (tested l .0) (e .before .before .if2 .taken)
           (d .result) (sound e) (d .ensures) (c .before .if4 .left),
-      more pl (n .long) (l .before .loop .sums) (c .with-line .result) (l .before .loop .i - 1) (tested l .1) (low l) (c .with-line .ensures)
+      more pl (long (l .before .before)) (l .before .loop .sums) (c .with-line .result) (l .before .loop .i - 1) (tested l .1) (low l) (c .with-line .ensures)
           (omega (arith, sound-sum (pl .common) (lineOf l) (sound e), sound-small (pl .common) (lineOf l) (sound e), n .common-small)),
     )
 
@@ -137,7 +141,7 @@ returns-4 : tie.Need-returns-4 Inv-loop μ-loop
 returns-4 c =
     let l = c .before .before .before .before in
     let pl = l .before .before .before .before .args .t1 in
-    sym (tasks-break pl (past-breaks pl (known (l .before .before)) (l .before .loop .divisor) (l .before .loop .i - 1) (tested l .0)
+    sym (tasks-break pl (past-breaks pl (known (l .before .before)) (long (l .before .before)) (l .before .loop .divisor) (l .before .loop .i - 1) (tested l .0)
     (c .before .before .if2 .left)
     (sym (c .before .line-empty .ensures) ∙ not-true (c .before .line-empty .result) (c .if5 .taken))))
 
@@ -151,8 +155,8 @@ loop-again-2 c =
     let n = known (l .before .before) in
     let empty = sym (c .before .line-empty .ensures) ∙ not-false (c .before .line-empty .result) (c .if5 .left) in
     let zero = empty-zero (lineOf l) empty .shares in (
-      past-more pl n (l .before .loop .divisor) (l .before .loop .i - 1) (tested l .0) (c .before .before .if2 .left) (low l) empty,
-      more pl (n .long) (l .before .loop .sums) (l .before .loop .sums) (l .before .loop .i - 1) (tested l .1) (low l)
+      past-more pl n (long (l .before .before)) (l .before .loop .divisor) (l .before .loop .i - 1) (tested l .0) (c .before .before .if2 .left) (low l) empty,
+      more pl (long (l .before .before)) (l .before .loop .sums) (l .before .loop .sums) (l .before .loop .i - 1) (tested l .1) (low l)
           (none-more (rowOf (lineOf l)) (l .before .loop .sums) zero) (omega (arith, zero)),
     )
 
@@ -166,7 +170,7 @@ returns-5 c =
     let e : at .loop .i ≡ 0 = omega arith in
     let all = rw e at (at .loop .inv) in
     others-decide pl (at .loop .sums) _ _ (ranges (at .before))
-    (finish pl (known (at .before)) (at .loop .divisor) (all .0)) (c .cores-sound .ensures) (all .1 .sums)
+    (finish pl (known (at .before)) (long (at .before)) (at .loop .divisor) (all .0)) (c .cores-sound .ensures) (all .1 .sums)
 
 pub plan-sound-spec : {M : Type 1} → statement M
 plan-sound-spec =

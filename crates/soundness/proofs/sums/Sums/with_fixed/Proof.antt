@@ -1,5 +1,5 @@
 -- `soundness::sums::Sums::with_fixed` meets its contract: the cores below p have the task's share.
-use Prim.Native.Nat.{_-_, _≤_}
+use Prim.Native.Nat.{_-_}
 use mathlib.Core.Path.{_≡_, refl, sym, _∙_}
 use native.Mathlib.Omega.{arith}
 use borrow.Author.Needs.{needs}

@@ -1,9 +1,8 @@
 -- `soundness::sums::Sums::with_line` meets its contract: a task with more than one share is a mover.
-use mathlib.Core.Path.{_≡_, refl, sym, ap, _∙_}
+use mathlib.Core.Path.{_≡_, sym, ap, _∙_}
 use native.Mathlib.Omega.{arith}
 use lib.Dec.{ltb}
 use borrow.Author.Needs.{needs}
-use Rattle.units.specs.Limits.{commonLimit}
 use Rattle.assignment.specs.Movers.{moves}
 use Rattle.planning.specs.Plan.{rowOf}
 use Rattle.soundness.proofs.sums.Sums.with_line.Statement.{statement}

@@ -1,14 +1,13 @@
 -- `soundness::sums::Sums::with_mover` meets its contract: the mover is counted on its first core, and the cores below p have its share.
-use Prim.Native.Nat.{_-_, _<_, _≤_}
-use mathlib.Core.Path.{_≡_, refl, sym, ap, _∙_}
+use Prim.Native.Nat.{_-_, _<_}
+use mathlib.Core.Path.{_≡_, refl, sym, _∙_}
 use mathlib.Core.Logic.{⊎-elim}
 use native.Mathlib.Omega.{arith}
-use lib.ListN.{length, getD}
+use lib.ListN.{length}
 use borrow.Author.Needs.{needs}
-use Rattle.units.specs.Limits.{coresLimit, tasksLimit}
+use Rattle.units.specs.Limits.{coresLimit}
 use Rattle.units.specs.Units.{nums}
 use Rattle.units.proofs.Units.{field-long, nums-length, nums-long}
-use Rattle.soundness.specs.Inner.{moversAt}
 use Rattle.soundness.proofs.Added.{first-there}
 use Rattle.soundness.proofs.Passed.{MoverPassed, load-fits, movers-fit, mover-none, mover-next, mover-skip, mover-done}
 use Rattle.soundness.proofs.sums.Sums.with_mover.Statement.{statement}
