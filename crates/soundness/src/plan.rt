@@ -63,8 +63,7 @@ pub fn plan_sound(plan: Plan) -> bool
             if divisor == 0 {
                 return false;
             }
-            let next = sums.with_line(line);
-            sums = next;
+            sums = sums.with_line(line);
         } else {
             if !line_empty(line) {
                 return false;
