@@ -1,3 +1,7 @@
+pub mod Added
+pub mod Passed
+pub mod Summed
+pub mod Numbers
 pub mod Ranges
 pub mod Tasks
 pub mod Whole
@@ -6,9 +10,6 @@ pub mod PlannedLines
 pub mod Keeps
 pub mod Taken
 pub mod PlannedSound
-pub mod Added
-pub mod Counted
-pub mod TallyWide
 pub mod Lined
 pub mod SoundKept
 pub mod PlannedShape

@@ -23,7 +23,9 @@ use Rattle.planning.specs.Kept.{PlanKept}
 use Rattle.soundness.specs.Rules.{lineEmpty, coreWithin, fewMovers, oneFirst, guarded}
 use Rattle.soundness.specs.Plan.{planSound}
 use Rattle.planning.specs.Shape.{PlanShaped}
-use Rattle.soundness.proofs.Facts.{ruled, Numbers, numbers}
+use Rattle.soundness.proofs.Numbers.{Numbers, numbers}
+use Rattle.soundness.proofs.Facts.{ruled}
+use Rattle.soundness.proofs.Ranges.{empty-zero}
 use Rattle.soundness.proofs.Lined.{lined}
 use Rattle.soundness.proofs.PlannedLines.{zero-row}
 
@@ -37,18 +39,8 @@ record Bounded (ln : Line) : Type 0 where
 past-empty : (ln : Line) → length (ln .shares) ≡ coresLimit → lineEmpty ln ≡ true → ln ≡ emptyLine
 unfolding emptyLine
 past-empty ln l e =
-    let a = eqb (ln .cost .0) 0 in
-    let b = eqb (ln .period .0) 0 in
-    let c = eqb (ln .weight .0) 0 in
-    let d = eqb (total (rowOf ln)) 0 in
-    let abc = and-left (a && b && c) d e in
-    let ab = and-left (a && b) c abc in
-    let none = zero-row (rowOf ln) (eqb-true (total (rowOf ln)) 0 (and-right (a && b && c) d e)) in
-    line-same ln emptyLine
-    (eqb-true (ln .cost .0) 0 (and-left a b ab))
-    (eqb-true (ln .period .0) 0 (and-right a b ab))
-    (eqb-true (ln .weight .0) 0 (and-right (a && b) c abc))
-    (none ∙ ap zeros (nums-long (ln .shares) coresLimit l))
+    let z = empty-zero ln e in
+    line-same ln emptyLine (z .cost) (z .period) (z .weight) (zero-row (rowOf ln) (z .shares) ∙ ap zeros (nums-long (ln .shares) coresLimit l))
 
 empty-bounded : Bounded emptyLine
 unfolding emptyLine

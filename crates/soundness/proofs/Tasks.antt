@@ -1,17 +1,17 @@
 -- The tasks of a plan tested from the last to the first.
 use Prim.Native.Nat.{ℕ, _+_, _*_, _/_, _%_, _≤_, _<_, _∣_}
 use mathlib.Core.Path.{_≡_, refl, sym, ap, _∙_}
-use mathlib.Core.Bool.{Bool, true, false, _&&_, and-false}
+use mathlib.Core.Bool.{true, false, _&&_, and-false}
 use mathlib.Core.List.{List, [], _∷_, map}
 use native.Mathlib.Omega.{arith}
 use native.Mathlib.Numerals.{add-one}
 use native.Mathlib.Nat.{zero-mul, mod-eq-zero-of-dvd, dvd-of-mod-eq-zero, eq-zero-of-zero-dvd, div-mul-cancel}
-use lib.Dec.{leb, eqb}
+use lib.Dec.{eqb}
 use lib.ListN.{length, getD, take, drop, length-map, drop-of-length-le, List·getD-map}
 use lib.Seq.{drop-cons, getD-take, length-take-le}
-use borrow.Author.Tests.{leb-true, eqb-true, eqb-false, eq-eqb, lt-ltb, le-ltb}
-use Rattle.units.specs.Limits.{coresLimit, tasksLimit, commonLimit}
-use Rattle.lists.proofs.Tests.{by-cases, and-left, and-right, and-true, same-bool}
+use borrow.Author.Tests.{eqb-true, eqb-false, eq-eqb, lt-ltb, le-ltb}
+use Rattle.units.specs.Limits.{tasksLimit}
+use Rattle.lists.proofs.Tests.{by-cases, and-right, and-true, same-bool}
 use Rattle.arith.specs.Divisor.{gcd}
 use Rattle.arith.specs.Period.{common}
 use Rattle.arith.proofs.Euclid.{gcd-right}
@@ -20,43 +20,12 @@ use Rattle.arith.proofs.Cofactor.{gcdAll, cofactors, cofactor-common, common-co
 use Rattle.planning.specs.declared.Line.{Line}
 use Rattle.planning.specs.declared.Plan.{Plan}
 use Rattle.planning.specs.Plan.{noLine}
-use Rattle.soundness.specs.Rules.{numbersIn, commonIs, lineEmpty}
+use Rattle.soundness.specs.Rules.{commonIs, lineEmpty}
 use Rattle.lists.specs.Below.{allBelow}
 use Rattle.soundness.specs.Plan.{lineSound, lineOk}
 use Rattle.soundness.specs.Inner.{divisorWith}
 use Rattle.lists.proofs.Below.{all-suc}
-
--- cores, tasks and the common period in their ranges, and a line for each of sixty-four tasks
-pub record Numbers (pl : Plan) : Type 0 where
-  pub cores-some : 0 < pl .cores
-  pub cores-few : pl .cores ≤ coresLimit
-  pub count-some : 0 < pl .count
-  pub count-few : pl .count ≤ tasksLimit
-  pub common-some : 0 < pl .common
-  pub common-small : pl .common ≤ commonLimit
-  pub long : length (pl .lines) ≡ tasksLimit
-
-pub numbers : (pl : Plan) → numbersIn pl ≡ true → length (pl .lines) ≡ tasksLimit → Numbers pl
-numbers pl e h =
-    let a : Bool = leb 1 (pl .cores) in
-    let b : Bool = leb (pl .cores) coresLimit in
-    let c : Bool = leb 1 (pl .count) in
-    let d : Bool = leb (pl .count) tasksLimit in
-    let f : Bool = leb 1 (pl .common) in
-    let g : Bool = leb (pl .common) commonLimit in
-    let e₅ : (a && b && c && d && f) ≡ true = and-left (a && b && c && d && f) g e in
-    let e₄ : (a && b && c && d) ≡ true = and-left (a && b && c && d) f e₅ in
-    let e₃ : (a && b && c) ≡ true = and-left (a && b && c) d e₄ in
-    let e₂ : (a && b) ≡ true = and-left (a && b) c e₃ in
-    record {
-      cores-some = leb-true 1 (pl .cores) (and-left a b e₂);
-      cores-few = leb-true (pl .cores) coresLimit (and-right a b e₂);
-      count-some = leb-true 1 (pl .count) (and-right (a && b) c e₃);
-      count-few = leb-true (pl .count) tasksLimit (and-right (a && b && c) d e₄);
-      common-some = leb-true 1 (pl .common) (and-right (a && b && c && d) f e₅);
-      common-small = leb-true (pl .common) commonLimit (and-right (a && b && c && d && f) g e);
-      long = h;
-    }
+use Rattle.soundness.proofs.Numbers.{Numbers}
 
 -- a period that divides L: its quotient is joined to the others
 joined : (g l t : ℕ) → (divisorWith g l t ≡ 0 → ⊥) → (t ∣ l) × (divisorWith g l t ≡ gcd g (l / t))
@@ -94,10 +63,10 @@ pub record Checked (pl : Plan) (g i : ℕ) : Type 0 where
   pub each : (j : ℕ) → i ≤ j → j < pl .count → periodAt pl j ∣ pl .common
   pub divisor : g ≡ gcdAll (cofactors (pl .common) (drop i (periodsOf pl)))
 
-module _ (pl : Plan) (n : Numbers pl) where
+module _ (pl : Plan) (n : Numbers pl) (long : length (pl .lines) ≡ tasksLimit) where
   periods-long : length (periodsOf pl) ≡ pl .count
   periods-long = length-map (take (pl .count) (pl .lines)) (λ (ln : Line). ln .period .0) ∙ length-take-le (pl .count) (pl .lines)
-      (omega (arith, n .count-few, n .long))
+      (omega (arith, n .count-few, long))
 
   periods-at : (i : ℕ) → i < pl .count → getD (periodsOf pl) i 0 ≡ periodAt pl i
   periods-at i h = List·getD-map (λ (ln : Line). ln .period .0) (take (pl .count) (pl .lines)) i noLine ∙ ap (λ (ln : Line). ln .period .0)

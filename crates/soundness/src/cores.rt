@@ -1,14 +1,13 @@
-// The rules for one core, by its tally.
-use crate::tally::Tally;
+// The rules for one core, by its sums.
+use crate::sums::Sums;
 use units::limits::CORES;
 use units::share::Share;
 ghost use mathlib.Core.Path.{_≡_};
 ghost use mathlib.Core.Bool.{_&&_, _||_, not};
 ghost use lib.Dec.{ltb, leb, eqb};
-ghost use lib.ListN.{getD};
 ghost use Rattle.units.specs.Limits.{coresLimit};
 ghost use Rattle.lists.specs.Below.{allBelow};
-ghost use Rattle.soundness.specs.Inner.{noTally, tallySound};
+ghost use Rattle.soundness.specs.Inner.{sumsSound};
 
 // The load of core p is at most L, and 0 if it is not among the M cores.
 fn core_within(load: Share, p: usize, cores: usize, common: u32) -> bool
@@ -38,25 +37,23 @@ fn guarded(mover: Share, fixed: Share) -> bool
     mover.0 <= fixed.0
 }
 
-// All rules for a core.
-fn core_sound(tally: Tally, p: usize, cores: usize, common: u32) -> bool
-    ensures { λ r. ⌜ r ≡ tallySound cores common p tally ⌝ }
-{
-    core_within(tally.load, p, cores, common)
-        & few_movers(tally.movers)
-        & one_first(tally.movers, tally.firsts)
-        & guarded(tally.mover, tally.fixed)
-}
-
 // All rules for all cores.
-pub(crate) fn cores_sound(tallies: [Tally; CORES], cores: usize, common: u32) -> bool
-    ensures { λ r. ⌜ r ≡ allBelow coresLimit (λ p. tallySound cores common p (getD tallies p noTally)) ⌝ }
+pub(crate) fn cores_sound(sums: Sums, cores: usize, common: u32) -> bool
+    ensures { λ r. ⌜ r ≡ allBelow coresLimit (sumsSound cores common sums) ⌝ }
 {
     let mut sound = true;
     let mut p: usize = 0;
     while p < CORES {
-        let tally = tallies[p];
-        sound = core_sound(tally, p, cores, common) & sound;
+        let load = sums.loads[p];
+        let fixed = sums.fixed[p];
+        let movers = sums.movers[p];
+        let firsts = sums.firsts[p];
+        let mover = sums.heaviest[p];
+        sound = core_within(load, p, cores, common)
+            & few_movers(movers)
+            & one_first(movers, firsts)
+            & guarded(mover, fixed)
+            & sound;
         p += 1;
     }
     sound

@@ -2,4 +2,4 @@
 mod cores;
 mod lines;
 pub mod plan;
-mod tally;
+mod sums;

@@ -2,19 +2,16 @@
 use crate::cores::cores_sound;
 use crate::lines::line_empty;
 use crate::lines::line_sound;
-use crate::tally::tallies_of;
+use crate::sums::Sums;
 use arith::divisor::gcd;
 use planning::Plan;
 use units::limits::COMMON;
 use units::limits::CORES;
 use units::limits::TASKS;
 ghost use mathlib.Core.Path.{_≡_};
-ghost use mathlib.Core.Bool.{true, _&&_};
 ghost use Prim.Native.Nat.{_<_};
-ghost use Rattle.units.specs.Limits.{tasksLimit};
-ghost use Rattle.soundness.specs.Rules.{numbersIn, commonIs};
-ghost use Rattle.lists.specs.Below.{allBelow};
-ghost use Rattle.soundness.specs.Plan.{lineOk, planSound};
+ghost use Rattle.soundness.specs.Rules.{numbersIn};
+ghost use Rattle.soundness.specs.Plan.{planSound};
 ghost use Rattle.soundness.specs.Inner.{divisorWith};
 
 // Cores, tasks and the common period are in their ranges.
@@ -43,13 +40,16 @@ fn divisor_with(divisor: u32, common: u32, period: u32) -> u32
     gcd(divisor, common / period)
 }
 
-// The rules for all tasks.
-fn tasks_sound(plan: Plan) -> bool
-    requires { ⌜ numbersIn plan ≡ true ⌝ }
-    ensures { λ r. ⌜ r ≡ (allBelow tasksLimit (lineOk plan) && commonIs plan) ⌝ }
+// In one pass over the lines, from the last to the first: so the definitions fold the table of shares.
+pub fn plan_sound(plan: Plan) -> bool
+    ensures { λ r. ⌜ r ≡ planSound plan ⌝ }
 {
+    if !numbers_in(plan) {
+        return false;
+    }
     let common = plan.common;
     let count = plan.count;
+    let mut sums = Sums::NONE;
     let mut divisor: u32 = 0;
     let mut i: usize = TASKS;
     while 0 < i {
@@ -63,25 +63,12 @@ fn tasks_sound(plan: Plan) -> bool
             if divisor == 0 {
                 return false;
             }
+            sums = sums.with_line(line);
         } else {
             if !line_empty(line) {
                 return false;
             }
         }
     }
-    divisor == 1
-}
-
-pub fn plan_sound(plan: Plan) -> bool
-    ensures { λ r. ⌜ r ≡ planSound plan ⌝ }
-{
-    if !numbers_in(plan) {
-        return false;
-    }
-    if !tasks_sound(plan) {
-        return false;
-    }
-    let lines = plan.lines;
-    let tallies = tallies_of(lines);
-    cores_sound(tallies, plan.cores as usize, plan.common)
+    (divisor == 1) & cores_sound(sums, plan.cores as usize, common)
 }
