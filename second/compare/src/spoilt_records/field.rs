@@ -22,29 +22,25 @@ const UNFINISHED: Range<usize> = 54..55;
 /// The place of the common period in the box.
 const COMMON: usize = 2;
 
-/// A value as the product can hold it in a place of the record, counted from 0.
+/// What a place of the record, counted from 0, takes of a value: as many low bits as the product keeps there.
 pub fn held(place: usize, value: u64) -> u64 {
-    let Some(place) = place.checked_sub(BOX) else {
-        return if place == COMMON {
-            narrow(value)
-        } else {
-            value
-        };
-    };
-    let place = place % TASK;
-    if HAD.contains(&place) {
-        value % 2
-    } else if [WEIGHT, SHARES, COUNTS, PLACE]
-        .iter()
-        .any(|f| f.contains(&place))
-    {
-        narrow(value)
-    } else {
-        value
-    }
+    value & (u64::MAX >> (u64::BITS - bits(place)))
 }
 
-/// The nearest number of 32 bits.
-fn narrow(value: u64) -> u64 {
-    value.min(u64::from(u32::MAX))
+/// The bits that the product keeps of the number in a place.
+fn bits(place: usize) -> u32 {
+    let Some(place) = place.checked_sub(BOX) else {
+        return if place == COMMON { 32 } else { 64 };
+    };
+    let place = place % TASK;
+    let of = |fields: &[Range<usize>]| fields.iter().any(|field| field.contains(&place));
+    if of(&[WEIGHT, SHARES, COUNTS, PLACE]) {
+        32
+    } else if of(&[HAD, UNFINISHED]) {
+        16
+    } else if RUNS.step_by(2).any(|core| core == place) {
+        8 // A run's core stands before its deadline.
+    } else {
+        64
+    }
 }
