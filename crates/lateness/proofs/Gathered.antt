@@ -12,7 +12,7 @@ use Rattle.lists.specs.Lists.{parts}
 use Rattle.planning.specs.declared.Line.{Line}
 use Rattle.planning.specs.Plan.{noLine, emptyLine, rowOf}
 use Rattle.assignment.specs.Movers.{upper, lower}
-use Rattle.units.specs.Units.{share, ticks}
+use Rattle.units.specs.Units.{share, duration}
 use Rattle.lateness.specs.declared.movers.Mover.{Mover}
 use Rattle.lateness.specs.declared.movers.Movers.{Movers}
 use Rattle.lateness.specs.Lateness.{upperOn, lowerOn}
@@ -21,11 +21,11 @@ use Rattle.lateness.proofs.Pair.{empty-share}
 
 -- the empty line as a mover
 abbrev pub nobody : Mover
-nobody = record { share = share 0; cost = ticks 0; period = ticks 0; first = coresLimit }
+nobody = record { share = share 0; cost = duration 0; period = duration 0; first = coresLimit }
 
 empty-mover : (p : ℕ) → nobody ≡ moverOn p emptyLine
 unfolding emptyLine
-empty-mover p = ap (λ (s : ℕ). record { share = share s; cost = ticks 0; period = ticks 0; first = coresLimit }) (sym (empty-share p))
+empty-mover p = ap (λ (s : ℕ). record { share = share s; cost = duration 0; period = duration 0; first = coresLimit }) (sym (empty-share p))
 
 -- no line, no mover
 pub gathered-none : (lns : List Line) (i : ℕ) → length lns ≤ i

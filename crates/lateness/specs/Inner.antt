@@ -7,7 +7,7 @@ use lib.IntN.{ℤ, pos, subℕ}
 use lib.ListN.{length, getD}
 use Rattle.units.specs.Limits.{coresLimit, tasksLimit, periodLimit, commonLimit}
 use Rattle.units.specs.declared.share.Share.{Share}
-use Rattle.units.specs.Units.{share, ticks}
+use Rattle.units.specs.Units.{share, duration}
 use Rattle.arith.specs.Ceiling.{ceilDiv}
 use Rattle.assignment.specs.Movers.{firstCore}
 use Rattle.planning.specs.declared.Line.{Line}
@@ -26,7 +26,7 @@ moverOn p ln = mover (share (shareOn p ln)) ln (firstCore (rowOf ln))
 
 -- what stands past the last core
 abbrev pub noMover : Mover
-noMover = record { share = share 0; cost = ticks 0; period = ticks 0; first = 0 }
+noMover = record { share = share 0; cost = duration 0; period = duration 0; first = 0 }
 
 -- the movers of each core with one line more in front, which takes the place of those on the cores of a test
 abbrev pub InFront : (ℕ → Bool) → Line → List Mover → List Mover → Type 0

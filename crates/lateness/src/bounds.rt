@@ -33,7 +33,7 @@ fn push(reaches: &[u64; CORES], mover: Mover) -> u64
     ensures { λ r. ⌜ r ≡ pushBy (now (reaches .entry)) mover ⌝ }
 {
     let reach = at(reaches, mover.first);
-    mover.share.0 as u64 * (reach + mover.period.0)
+    mover.share.0 as u64 * (reach + mover.period.0 as u64)
 }
 
 // The reach of a core's lower mover, (s × (D + 2T) + L × (2C' + C)) / (L − s) rounded up, with the upper mover's s, D, T and C'.
@@ -42,7 +42,7 @@ fn reach_on(common: u32, reaches: &[u64; CORES], upper: Mover, lower: Mover) -> 
     ensures { λ r. ⌜ r ≡ reachBy common (now (reaches .entry)) upper lower ⌝ }
 {
     let l = common as u64;
-    let own = l * (2 * upper.cost.0 + lower.cost.0);
+    let own = l * (2 * upper.cost.0 as u64 + lower.cost.0 as u64);
     ceil_div(push(reaches, upper) + own, l - upper.share.0 as u64)
 }
 
@@ -52,7 +52,7 @@ fn fixed_on(common: u32, reaches: &[u64; CORES], upper: Mover, lower: Mover) -> 
     ensures { λ r. ⌜ r ≡ pairLate common (now (reaches .entry)) upper lower ⌝ }
 {
     let l = common as u64;
-    let own = l * (2 * upper.cost.0 + 2 * lower.cost.0);
+    let own = l * (2 * upper.cost.0 as u64 + 2 * lower.cost.0 as u64);
     ceil_div(
         push(reaches, upper) + push(reaches, lower) + own,
         l - upper.share.0 as u64 - lower.share.0 as u64,
@@ -95,7 +95,7 @@ fn fixed_of(plan: Plan, movers: Movers, reaches: &[u64; CORES]) -> [u64; CORES]
 // A task's bound: a mover's reach less its period, or the bound of its core's fixed tasks.
 fn late_at(
     moves: bool,
-    period: u64,
+    period: u32,
     first: usize,
     reaches: &[u64; CORES],
     fixed: &[u64; CORES],
@@ -113,7 +113,7 @@ fn late_at(
 // The bounds of tasks: whether each moves, its period and its first core.
 fn lates_of(
     moving: &[bool; TASKS],
-    periods: &[u64; TASKS],
+    periods: &[u32; TASKS],
     firsts: &[usize; TASKS],
     reaches: &[u64; CORES],
     fixed: &[u64; CORES],
@@ -142,7 +142,7 @@ pub fn bounds_of(plan: Plan) -> [i64; TASKS]
     let mut upper = [Mover::NONE; CORES];
     let mut lower = [Mover::NONE; CORES];
     let mut moving = [false; TASKS];
-    let mut periods = [0u64; TASKS];
+    let mut periods = [0u32; TASKS];
     let mut firsts = [0usize; TASKS];
     let mut i: usize = TASKS;
     while 0 < i {

@@ -4,7 +4,7 @@ use assignment::standing::stands;
 use planning::Line;
 use units::limits::CORES;
 use units::share::Share;
-use units::ticks::Ticks;
+use units::ticks::Duration;
 ghost use mathlib.Core.Path.{_≡_};
 ghost use Prim.Native.Nat.{_<_};
 ghost use Rattle.lists.specs.Lists.{parts};
@@ -15,16 +15,16 @@ ghost use Rattle.lateness.specs.Inner.{mover, InFront};
 // A mover on a core: its share there, its cost, its period and its first core.
 pub(crate) struct Mover {
     pub(crate) share: Share,
-    pub(crate) cost: Ticks,
-    pub(crate) period: Ticks,
+    pub(crate) cost: Duration,
+    pub(crate) period: Duration,
     pub(crate) first: usize,
 }
 
 impl Mover {
     pub(crate) const NONE: Mover = Mover {
         share: Share::EMPTY,
-        cost: Ticks(0),
-        period: Ticks(0),
+        cost: Duration(0),
+        period: Duration(0),
         first: CORES,
     };
 }

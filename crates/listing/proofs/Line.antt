@@ -6,7 +6,7 @@ use mathlib.Core.List.{List, [], _∷_, _++_, append-assoc, append-nil, append-c
 use native.Mathlib.Omega.{arith}
 use lib.IntN.{ℤ}
 use lib.ListN.{length}
-use Rattle.units.specs.Units.{share, ticks, units}
+use Rattle.units.specs.Units.{share, duration, units}
 use Rattle.units.proofs.Units.{nums-length, units-nums}
 use Rattle.writing.specs.Ascii.{ascii, newline}
 use Rattle.writing.specs.Decimal.{signedOf}
@@ -94,7 +94,7 @@ head-cut i j a b t u p q e =
 pub line-same : (a b : Line) → a .cost .0 ≡ b .cost .0 → a .period .0 ≡ b .period .0 → a .weight .0 ≡ b .weight .0 → rowOf a ≡ rowOf b → a ≡ b
 line-same a b c t w r =
     let shares = sym (units-nums (a .shares)) ∙ ap units r ∙ units-nums (b .shares) in
-    λ i. record { cost = ticks (c i); period = ticks (t i); weight = share (w i); shares = shares i }
+    λ i. record { cost = duration (c i); period = duration (t i); weight = share (w i); shares = shares i }
 
 -- a task's line is told from a text that starts with it, and so is what follows
 pub task-cut : (i j : ℕ) (a b : Line) (y z : ℤ) (t u : List ℕ) → length (a .shares) ≡ length (b .shares)

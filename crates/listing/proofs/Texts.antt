@@ -2,6 +2,7 @@
 use Prim.Native.Nat.{ℕ, zero, suc, _+_, _≤_, _<_}
 use mathlib.Core.Path.{_≡_, refl, sym, ap, _∙_}
 use mathlib.Core.List.{List, [], _∷_, _++_, append-assoc, append-nil}
+use mathlib.Core.Bool.{Bool, cond}
 use native.Mathlib.Nat.{add-zero}
 use native.Mathlib.Numerals.{add-one}
 use native.Mathlib.Omega.{arith}
@@ -13,7 +14,7 @@ use lib.Seq.{drop-cons}
 use Rattle.units.specs.declared.share.Share.{Share}
 use Rattle.units.specs.Units.{share, nums}
 use Rattle.units.proofs.Units.{nums-at}
-use Rattle.lists.specs.Lists.{parts, bit}
+use Rattle.lists.specs.Lists.{parts, firstPart, bit}
 use Rattle.lists.proofs.Tests.{by-cases}
 use Rattle.lists.proofs.Lists.{parts-cons, parts-len}
 use Rattle.writing.specs.Ascii.{ascii}
@@ -48,6 +49,24 @@ cores-more ss k =
     ap (λ (m : ℕ). sharesText 1 (nums (take k ss)) ++ shareText m (getD ss k (share 0) .0)) (omega arith)
     ∙ shares-more 1 ss k
     ∙ ap (λ (m : ℕ). sharesText 1 (nums (take m ss))) (sym (add-one k))
+
+-- before the first part there is no text
+pub first-text : (q : ℕ) (ss : List Share) → [] ≡ sharesText q (nums (take (firstPart (nums ss)) ss))
+first-text q [] = refl
+first-text q (s ∷ ss) = by-cases (eqb (s .0) 0) (λ t. rw t (rw t (first-text (suc q) ss))) (λ t. rw t)
+
+-- and no other part
+pub first-left : (row : List ℕ) → parts row ≡ parts (drop (firstPart row) row)
+first-left [] = refl
+first-left (x ∷ row) =
+    by-cases (eqb x 0)
+    (λ t. rw t (first-left row))
+    (λ t. ap (λ (b : Bool). parts (drop (cond b (suc (firstPart row)) 0) (x ∷ row))) (sym t))
+
+-- it is one of the cores, or past the last
+pub first-in : (row : List ℕ) → firstPart row ≤ length row
+first-in [] = omega arith
+first-in (x ∷ row) = by-cases (eqb x 0) (λ t. rw t (omega (arith, first-in row))) (λ t. rw t (omega arith))
 
 -- with no part left there is no text left
 none-text : (q : ℕ) (row : List ℕ) → parts row ≡ 0 → [] ≡ sharesText q row

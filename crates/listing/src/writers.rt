@@ -1,4 +1,5 @@
 // Writers of the listing's pieces. Each stores as much as fits and answers the index after its text.
+use assignment::rows::first_core;
 use assignment::rows::parts_of;
 use assignment::standing::moves_by;
 use planning::Line;
@@ -34,7 +35,7 @@ fn put_share(buf: &mut [u8], at: usize, core: usize, share: Share) -> usize
     put_field(buf, next, b":", share.0 as u64)
 }
 
-// The positive shares of a row, of which there are so many: past the last of them no core is looked at.
+// The positive shares of a row, of which there are so many: before the first of them and past the last no core is looked at.
 fn put_shares(buf: &mut [u8], at: usize, shares: [Share; CORES], parts: usize) -> usize
     requires { ⌜ (at + 800 ≤ placeLimit) × (parts ≡ partsOf (nums shares)) ⌝ }
     ensures { λ r. ⌜ Wrote (now (buf .entry)) at (sharesText 1 (nums shares)) (now (buf .exit)) r ⌝ }
@@ -42,7 +43,7 @@ fn put_shares(buf: &mut [u8], at: usize, shares: [Share; CORES], parts: usize) -
 {
     let mut next = at;
     let mut left = parts;
-    let mut p: usize = 0;
+    let mut p = first_core(shares);
     while 0 < left {
         let s = shares[p];
         next = put_share(buf, next, p + 1, s);
@@ -77,8 +78,8 @@ fn put_head(buf: &mut [u8], at: usize, i: usize, line: Line) -> usize
     ensures { λ r. ⌜ r ≤ at + 107 ⌝ }
 {
     let a = put_field(buf, at, b"task ", i as u64);
-    let b = put_field(buf, a, b" cost ", line.cost.0);
-    let c = put_field(buf, b, b" period ", line.period.0);
+    let b = put_field(buf, a, b" cost ", line.cost.0 as u64);
+    let c = put_field(buf, b, b" period ", line.period.0 as u64);
     put_field(buf, c, b" weight ", line.weight.0 as u64)
 }
 
@@ -105,22 +106,16 @@ fn put_task(buf: &mut [u8], at: usize, i: usize, line: Line, late: i64) -> usize
     put_late(buf, b, late)
 }
 
-// The lines of the first tasks, with their bounds.
-fn put_tasks(
-    buf: &mut [u8],
-    at: usize,
-    lines: [Line; TASKS],
-    lates: [i64; TASKS],
-    count: usize,
-) -> usize
-    requires { ⌜ (at ≤ 1000) × (count ≤ tasksLimit) ⌝ }
-    ensures { λ r. ⌜ Wrote (now (buf .entry)) at (tasksText lines lates count) (now (buf .exit)) r ⌝ }
+// The tasks' lines, with their bounds.
+fn put_tasks(buf: &mut [u8], at: usize, plan: Plan, lates: [i64; TASKS]) -> usize
+    requires { ⌜ (at ≤ 1000) × (plan .count ≤ tasksLimit) ⌝ }
+    ensures { λ r. ⌜ Wrote (now (buf .entry)) at (tasksText (plan .lines) lates (plan .count)) (now (buf .exit)) r ⌝ }
     ensures { λ r. ⌜ r ≤ at + 1000 * tasksLimit ⌝ }
 {
     let mut next = at;
     let mut i: usize = 0;
-    while i < count {
-        let line = lines[i];
+    while i < plan.count {
+        let line = plan.lines[i];
         let late = lates[i];
         next = put_task(buf, next, i + 1, line, late);
         i += 1;
@@ -134,9 +129,8 @@ pub(crate) fn put_plan(buf: &mut [u8], plan: Plan, lates: [i64; TASKS]) -> usize
     ensures { λ r. ⌜ Wrote (now (buf .entry)) 0 (listingText plan) (now (buf .exit)) r ⌝ }
     ensures { λ r. ⌜ r ≤ 100000 ⌝ }
 {
-    let lines = plan.lines;
     let a = put_field(buf, 0, b"cores ", plan.cores as u64);
     let b = put_field(buf, a, b" common ", plan.common as u64);
     let c = put_byte(buf, b, NEWLINE);
-    put_tasks(buf, c, lines, lates, plan.count)
+    put_tasks(buf, c, plan, lates)
 }

@@ -7,7 +7,7 @@ use native.Mathlib.Numerals.{add-one}
 use lib.ListN.{length, getD, drop, set, replicate}
 use lib.Seq.{drop-cons}
 use Rattle.units.specs.Limits.{coresLimit, tasksLimit}
-use Rattle.units.specs.Units.{share, ticks, nums, units}
+use Rattle.units.specs.Units.{share, duration, nums, units}
 use Rattle.units.specs.declared.share.Share.{Share}
 use Rattle.units.proofs.Units.{nums-at, units-nums}
 use Rattle.lists.specs.Lists.{zeros}
@@ -68,8 +68,8 @@ rows-at (r ∷ rows) (suc k) = rows-at rows k
 -- a task's line, from the arrays of weights and of rows
 pub line-at : (c t : ℕ) (ws : List Share) (rows : List Row) (k : ℕ)
     → line c t (getD (nums ws) k 0) (getD (rowsOf rows) k [])
-    ≡ record { cost = ticks c; period = ticks t; weight = getD ws k (share 0); shares = getD rows k (record { shares = [] }) .shares }
+    ≡ record { cost = duration c; period = duration t; weight = getD ws k (share 0); shares = getD rows k (record { shares = [] }) .shares }
 line-at c t ws rows k =
-    ap₂ (λ (w : Share) (ss : List Share). record { cost = ticks c; period = ticks t; weight = w; shares = ss })
+    ap₂ (λ (w : Share) (ss : List Share). record { cost = duration c; period = duration t; weight = w; shares = ss })
     (ap share (nums-at ws k))
     (ap units (rows-at rows k) ∙ units-nums (getD rows k (record { shares = [] }) .shares))

@@ -1,11 +1,11 @@
--- A plan: cores M, the tasks, the common period L, and a line for each of sixty-four tasks.
+-- A plan: cores M, the common period L, the tasks, and a line for each of sixty-four tasks.
 use Prim.Native.Nat.{ℕ, _-_, _/_}
 use mathlib.Core.Bool.{cond}
 use mathlib.Core.List.{List, [], _∷_, _++_, map}
 use lib.Dec.{eqb}
 use lib.ListN.{length, replicate}
 use Rattle.units.specs.Limits.{coresLimit, tasksLimit}
-use Rattle.units.specs.Units.{share, ticks, nums, units}
+use Rattle.units.specs.Units.{share, duration, nums, units}
 use Rattle.lists.specs.Lists.{zeros}
 use Rattle.arith.specs.Period.{periods, common}
 use Rattle.admission.specs.Weight.{weights, padded}
@@ -19,7 +19,7 @@ use Rattle.planning.specs.declared.Planned.{Planned}
 
 -- a task's line: cost, period, weight and shares
 abbrev pub line : ℕ → ℕ → ℕ → List ℕ → Line
-line c t w row = record { cost = ticks c; period = ticks t; weight = share w; shares = units row }
+line c t w row = record { cost = duration c; period = duration t; weight = share w; shares = units row }
 
 -- the line of no task: all numbers 0
 unfoldable pub emptyLine : Line
@@ -43,14 +43,14 @@ paddedLines ls = ls ++ replicate (tasksLimit - length ls) emptyLine
 
 -- the empty plan: all numbers 0
 unfoldable pub emptyPlan : Plan
-emptyPlan = record { cores = 0; count = 0; common = 0; lines = replicate tasksLimit emptyLine }
+emptyPlan = record { cores = 0; common = 0; count = 0; lines = replicate tasksLimit emptyLine }
 
 -- the plan of a table that is taken: m cores, common period l, and a weight for each of sixty-four tasks
 unfoldable pub planFor : ℕ → ℕ → List ℕ → List ℕ → Plan
 planFor m l ws xs = record {
   cores = m;
-  count = length xs / 2;
   common = l;
+  count = length xs / 2;
   lines = paddedLines (linesOf xs ws (sharesOf ws (rooms m l)));
 }
 

@@ -6,7 +6,7 @@ use units::limits::CORES;
 use units::limits::TASKS;
 use units::refusal::Refusal;
 use units::share::Share;
-use units::ticks::Ticks;
+use units::ticks::Duration;
 ghost use mathlib.Core.Path.{_≡_};
 ghost use Prim.Native.Nat.{_*_, _≤_};
 ghost use lib.ListN.{length};
@@ -17,26 +17,26 @@ ghost use Rattle.planning.specs.Plan.{linesOf, paddedLines, emptyPlan, p
 
 // A task's line: what the table says of it, and what it is given.
 pub struct Line {
-    pub cost: Ticks,
-    pub period: Ticks,
+    pub cost: Duration,
+    pub period: Duration,
     pub weight: Share,
     pub shares: [Share; CORES],
 }
 
 impl Line {
     pub const EMPTY: Line = Line {
-        cost: Ticks(0),
-        period: Ticks(0),
+        cost: Duration(0),
+        period: Duration(0),
         weight: Share::EMPTY,
         shares: [Share::EMPTY; CORES],
     };
 }
 
-// Cores M, the number of tasks N, the common period L, and the tasks' lines; those past N are empty.
+// Cores M, the common period L, the number of tasks N, and the tasks' lines; those past N are empty.
 pub struct Plan {
-    pub cores: usize,
-    pub count: usize,
+    pub cores: u32,
     pub common: u32,
+    pub count: usize,
     pub lines: [Line; TASKS],
 }
 
@@ -72,11 +72,11 @@ fn lines_of(table: &[u32], weights: [Share; TASKS], rows: [Row; TASKS]) -> [Line
         let row = rows[k];
         let shares = row.shares;
         let weight = weights[k];
-        let cost = table[2 * k] as u64;
-        let period = table[2 * k + 1] as u64;
+        let cost = table[2 * k];
+        let period = table[2 * k + 1];
         lines[k] = Line {
-            cost: Ticks(cost),
-            period: Ticks(period),
+            cost: Duration(cost),
+            period: Duration(period),
             weight: weight,
             shares: shares,
         };
@@ -95,9 +95,9 @@ fn drawn(cores: u32, table: &[u32], common: u32, weights: [Share; TASKS]) -> Pla
     let rows = shares_of(weights, room);
     let lines = lines_of(table, weights, rows);
     Plan {
-        cores: m,
-        count: table.len() / 2,
+        cores: cores,
         common: common,
+        count: table.len() / 2,
         lines: lines,
     }
 }
@@ -107,8 +107,8 @@ fn empty_plan() -> Plan
 {
     Plan {
         cores: 0,
-        count: 0,
         common: 0,
+        count: 0,
         lines: [Line::EMPTY; TASKS],
     }
 }

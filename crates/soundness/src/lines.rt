@@ -11,7 +11,7 @@ ghost use Rattle.soundness.specs.Plan.{lineSound};
 fn line_in(line: Line) -> bool
     ensures { λ r. ⌜ r ≡ lineIn line ⌝ }
 {
-    (1 <= line.cost.0) & (line.cost.0 <= line.period.0) & (line.period.0 <= PERIOD as u64)
+    (1 <= line.cost.0) & (line.cost.0 <= line.period.0) & (line.period.0 <= PERIOD)
 }
 
 // The weight is C × L / T: T goes into C × L as often, and once more would be too much.
@@ -19,9 +19,9 @@ fn weight_is(common: u32, line: Line) -> bool
     requires { ⌜ lineIn line ≡ true ⌝ }
     ensures { λ r. ⌜ r ≡ weightIs common line ⌝ }
 {
-    let whole = line.cost.0 * common as u64;
-    let part = line.weight.0 as u64 * line.period.0;
-    (part <= whole) & (whole < part + line.period.0)
+    let whole = line.cost.0 as u64 * common as u64;
+    let part = line.weight.0 as u64 * line.period.0 as u64;
+    (part <= whole) & (whole < part + line.period.0 as u64)
 }
 
 // The shares sum to the weight.

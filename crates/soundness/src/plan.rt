@@ -22,7 +22,7 @@ fn numbers_in(plan: Plan) -> bool
     ensures { λ r. ⌜ r ≡ numbersIn plan ⌝ }
 {
     (1 <= plan.cores)
-        & (plan.cores <= CORES)
+        & (plan.cores <= CORES as u32)
         & (1 <= plan.count)
         & (plan.count <= TASKS)
         & (1 <= plan.common)
@@ -59,7 +59,7 @@ fn tasks_sound(plan: Plan) -> bool
             if !line_sound(common, line) {
                 return false;
             }
-            divisor = divisor_with(divisor, common, line.period.0 as u32);
+            divisor = divisor_with(divisor, common, line.period.0);
             if divisor == 0 {
                 return false;
             }
@@ -83,5 +83,5 @@ pub fn plan_sound(plan: Plan) -> bool
     }
     let lines = plan.lines;
     let tallies = tallies_of(lines);
-    cores_sound(tallies, plan.cores, plan.common)
+    cores_sound(tallies, plan.cores as usize, plan.common)
 }

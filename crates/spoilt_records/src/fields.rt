@@ -6,6 +6,7 @@ use planning::Line;
 use task_state::State;
 use units::limits::CORES;
 use units::share::Share;
+use units::ticks::Duration;
 use units::ticks::Ticks;
 ghost use Prim.Native.Nat.{_<_};
 ghost use Rattle.spoilt_records.specs.Inner.{lineNumbers, stateNumbers, runNumbers};
@@ -20,14 +21,14 @@ pub fn line_with(line: Line, k: usize, value: u64) -> Line
     requires { ⌜ k < lineNumbers ⌝ }
 {
     let mut next = line;
-    let ticks = Ticks(value);
+    let duration = Duration(low_half(value));
     let share = Share(low_half(value));
     if k == 0 {
-        next.cost = ticks;
+        next.cost = duration;
         return next;
     }
     if k == 1 {
-        next.period = ticks;
+        next.period = duration;
         return next;
     }
     if k == 2 {

@@ -64,7 +64,7 @@ pub fn record_of(bytes: &[u8]) -> Record {
         i += 1;
     }
     let plan = Plan {
-        cores: number64(bytes, 0) as usize,
+        cores: low_half(number64(bytes, 0)),
         count: number64(bytes, 8) as usize,
         common: low_half(number64(bytes, 16)),
         lines: lines,
@@ -80,7 +80,8 @@ pub fn record_of(bytes: &[u8]) -> Record {
 fn head_with(record: Record, k: usize, value: u64) -> Record {
     let mut next = record;
     if k == 0 {
-        next.plan.cores = value as usize;
+        let cores = low_half(value);
+        next.plan.cores = cores;
         return next;
     }
     if k == 1 {

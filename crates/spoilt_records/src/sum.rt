@@ -43,8 +43,8 @@ fn line_sum(h: u64, line: Line) -> u64
     requires { ⌜ h < sumLimit ⌝ }
     ensures { λ r. ⌜ r < sumLimit ⌝ }
 {
-    let a = sum_with(h, line.cost.0);
-    let b = sum_with(a, line.period.0);
+    let a = sum_with(h, line.cost.0 as u64);
+    let b = sum_with(a, line.period.0 as u64);
     let c = sum_with(b, line.weight.0 as u64);
     let shares = line.shares;
     shares_sum(c, shares)

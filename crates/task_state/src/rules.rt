@@ -69,7 +69,7 @@ impl State {
             return false;
         }
         let shares = line.shares;
-        let latest = CLOCK + line.period.0;
+        let latest = CLOCK + line.period.0 as u64;
         let mut k: usize = 0;
         while k < RUNS {
             let byte = self.cores[k];

@@ -24,7 +24,7 @@ impl State {
         let shares = line.shares;
         let counts = self.counts;
         let turn = turn_of(line.weight, self.place, shares, counts);
-        let due = time.0 + line.period.0;
+        let due = time.0 + line.period.0 as u64;
         let deadline = Ticks(due);
         let core = turn.core;
         let counted = turn.counts;

@@ -1,6 +1,6 @@
 pub mod Wrote
 pub mod Decimal
-pub mod Digits
+pub mod Hundreds
 pub mod Signed
 pub mod Back
 pub mod Plain

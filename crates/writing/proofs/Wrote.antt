@@ -10,7 +10,7 @@ use lib.Seq.{sets, sets-eq, length-sets, take-suc, take-length}
 use Rattle.writing.specs.Wrote.{Wrote}
 
 -- two runs of stores, the second right after the first, are one
-pub sets-append : (l : List ℕ) (i : ℕ) (xs ys : List ℕ) → sets (sets l i xs) (i + length xs) ys ≡ sets l i (xs ++ ys)
+sets-append : (l : List ℕ) (i : ℕ) (xs ys : List ℕ) → sets (sets l i xs) (i + length xs) ys ≡ sets l i (xs ++ ys)
 sets-append l i [] ys = ap (λ (k : ℕ). sets l k ys) (add-zero i)
 sets-append l i (x ∷ xs) ys =
     ap (λ (k : ℕ). sets (sets l i (x ∷ xs)) k ys) (add-suc i (length xs) ∙ sym (suc-add i (length xs)))
@@ -38,6 +38,10 @@ recast {a} {b} {i} {j} e w = subst (λ (t : List ℕ). Wrote a i t b j) e w
 -- one byte was stored
 pub stored : (l : List ℕ) (i v : ℕ) → Wrote l i (v ∷ []) (set l i v) (i + 1)
 stored l i v = record { bytes = refl; end = refl }
+
+-- two bytes were
+pub both-stored : (l : List ℕ) (i v w : ℕ) → Wrote l i (v ∷ w ∷ []) (set (set l i v) (i + 1) w) (i + 2)
+both-stored l i v w = record { bytes = ap (λ (k : ℕ). set (set l i v) k w) (add-one i); end = refl }
 
 -- the first i bytes of a text, and the next
 pub byte-more : {a b d : List ℕ} {at j k : ℕ} (xs : List ℕ) (i : ℕ) → i < length xs → Wrote a at (take i xs) b j → Wrote b j (getD xs i 0 ∷ []) d k

@@ -1,6 +1,5 @@
 // Writers of text into a lent buffer. Each stores as much as fits and answers the index after its text.
-pub mod refused;
-
+use crate::digits::put_short;
 ghost use mathlib.Core.Path.{_≡_};
 ghost use mathlib.Core.List.{[], _∷_, _++_};
 ghost use Prim.Native.Nat.{_+_, _≤_};
@@ -9,6 +8,9 @@ ghost use lib.IntN.{natAbs};
 ghost use Rattle.writing.specs.Inner.{placeLimit};
 ghost use Rattle.writing.specs.Decimal.{decimalOf, signedOf};
 ghost use Rattle.writing.specs.Wrote.{Wrote};
+
+mod digits;
+pub mod refused;
 
 // The byte between two numbers.
 pub const BLANK: u8 = 32;
@@ -61,39 +63,6 @@ pub fn put_text(buf: &mut [u8], at: usize, text: &[u8]) -> usize
     next
 }
 
-// How many digits a number has.
-fn digits_of(n: u64) -> usize
-    ensures { λ r. ⌜ r ≡ length (decimalOf n) ⌝ }
-{
-    let mut left = n;
-    let mut count = 1;
-    while 100 <= left {
-        left = left / 100;
-        count += 2;
-    }
-    if left < 10 { count } else { count + 1 }
-}
-
-// A number in decimal where its digits fit, the last digit first. The loop's end is known before the divisions are.
-fn put_digits(buf: &mut [u8], at: usize, n: u64, count: usize) -> usize
-    requires { ⌜ count ≡ length (decimalOf n) ⌝ }
-    requires { ⌜ at + count ≤ length (now buf) ⌝ }
-    ensures { λ r. ⌜ Wrote (now (buf .entry)) at (decimalOf n) (now (buf .exit)) r ⌝ }
-{
-    let next = at + count;
-    let mut rest = n;
-    let mut i = next - 1;
-    while at < i {
-        let digit = 48 + (rest % 10) as u8;
-        buf[i] = digit;
-        rest = rest / 10;
-        i -= 1;
-    }
-    let digit = 48 + rest as u8;
-    buf[i] = digit;
-    next
-}
-
 // A number in decimal, cut where the buffer ends.
 fn put_cut(buf: &mut [u8], at: usize, n: u64) -> usize
     requires { ⌜ at + 20 ≤ placeLimit ⌝ }
@@ -108,18 +77,16 @@ fn put_cut(buf: &mut [u8], at: usize, n: u64) -> usize
     }
 }
 
-// A number in decimal.
+// A number in decimal: two digits at a time where eight have room, digit by digit else.
 pub fn put_number(buf: &mut [u8], at: usize, n: u64) -> usize
     requires { ⌜ at + 20 ≤ placeLimit ⌝ }
     ensures { λ r. ⌜ Wrote (now (buf .entry)) at (decimalOf n) (now (buf .exit)) r ⌝ }
     ensures { λ r. ⌜ r ≤ at + 20 ⌝ }
 {
-    let count = digits_of(n);
-    if at + count <= buf.len() {
-        put_digits(buf, at, n, count)
-    } else {
-        put_cut(buf, at, n)
+    if (n < 100_000_000) & (at + 8 <= buf.len()) {
+        return put_short(buf, at, n as u32);
     }
+    put_cut(buf, at, n)
 }
 
 // A label and a number after it.

@@ -45,7 +45,7 @@ fn batches() -> Vec<Batch> {
 }
 
 /// Numbers beside a limit and at the edges of the product's widths, each of which must be asked for.
-const EDGES: [(&str, u64); 15] = [
+const EDGES: [(&str, u64); 18] = [
     ("had", 2),
     ("had", 65_535),
     ("had", 65_536),
@@ -60,6 +60,9 @@ const EDGES: [(&str, u64); 15] = [
     ("share", 4_294_967_296),
     ("turns", 4_294_967_296),
     ("weight", 4_294_967_296),
+    ("cost", 4_294_967_296),
+    ("period", 4_294_967_296),
+    ("cores", 4_294_967_296),
     ("common", 4_294_967_296),
 ];
 

@@ -44,9 +44,6 @@ mul-cost-2 c = omega arith
 shared-slice-read-cost : tie.Need-shared-slice-read-cost Inv-loop μ-loop
 shared-slice-read-cost c = omega arith
 
-cast-cost : tie.Need-cast-cost Inv-loop μ-loop
-cast-cost c = omega (arith, c .shared-slice-known .given (2 * c .before .before .before .before .before .loop .k))
-
 mul-period : tie.Need-mul-period Inv-loop μ-loop
 mul-period c = omega arith
 
@@ -58,9 +55,6 @@ mul-period-2 c = omega arith
 
 shared-slice-read-period : tie.Need-shared-slice-read-period Inv-loop μ-loop
 shared-slice-read-period c = omega arith
-
-cast-period : tie.Need-cast-period Inv-loop μ-loop
-cast-period c = omega (arith, c .shared-slice-known2 .given (2 * c .before .before .before .before .before .before .loop .k + 1))
 
 mul-lines : tie.Need-mul-lines Inv-loop μ-loop
 mul-lines c = omega arith
@@ -108,12 +102,10 @@ lines-of-spec =
     mul-cost
     mul-cost-2
     shared-slice-read-cost
-    cast-cost
     mul-period
     add-period
     mul-period-2
     shared-slice-read-period
-    cast-period
     mul-lines
     array-set-from-lines
     add-k

@@ -1,31 +1,39 @@
--- `writing::put_number` meets its contract: the digits counted are those written.
+-- `writing::put_number` meets its contract: a short number where there is room, and any other as far as the buffer reaches.
 use borrow.Author.Needs.{needs}
+use borrow.Author.Tests.{ltb-true, leb-true}
+use Prim.Native.Nat.{_+_, _≤_, _<_}
 use native.Mathlib.Omega.{arith}
-use Rattle.writing.proofs.Decimal.{decimal-length}
+use lib.Dec.{ltb}
+use lib.ListN.{length}
+use Rattle.lists.proofs.Tests.{and-left, and-right}
 use Rattle.writing.proofs.put_number.Statement.{statement}
 use Rattle.writing.proofs.put_number.Tie as tie
 
-digits-of-requires : tie.Need-digits-of-requires
-digits-of-requires c κs = search needs
+-- the number is short
+short : (c : tie.Then1) → c .before .before .args .n < 100000000
+short c = ltb-true _ _ (and-left _ _ (c .if1 .taken))
+
+-- and there is room
+room : (c : tie.Then1) → c .before .before .args .at + 8 ≤ length (c .before .before .args .buf .now)
+room c = leb-true _ _ (and-right (ltb (c .before .before .args .n) 100000000) _ (c .if1 .taken))
 
 add-if1 : tie.Need-add-if1
-add-if1 c = omega (arith, c .digits-of .ensures, decimal-length 19 (c .before .before .args .n) (omega arith))
+add-if1 c = search needs
 
-put-digits-requires : tie.Need-put-digits-requires
-put-digits-requires c κs = search needs
+cast-put-short : tie.Need-cast-put-short
+cast-put-short c = record { fits = omega (arith, short (c .before)) }
 
-put-cut-requires : tie.Need-put-cut-requires
-put-cut-requires c κs = search needs
+put-short-requires : tie.Need-put-short-requires
+put-short-requires c κs = (short (c .before), room (c .before))
 
 same-length : tie.Need-same-length
 same-length c = search needs
 
 returns : tie.Need-returns
-returns c =
-    let p = c .before .before in
-    let s = p .before .before .before .before .before in
-    let w = p .put-digits .ensures in
-    (w, omega (arith, w .end, decimal-length 19 (s .args .n) (omega arith)))
+returns c = search needs
+
+put-cut-requires : tie.Need-put-cut-requires
+put-cut-requires c κs = search needs
 
 same-length-2 : tie.Need-same-length-2
 same-length-2 c = search needs
@@ -37,11 +45,11 @@ pub put-number-spec : {M : Type 1} → statement M
 put-number-spec =
     tie.close
     (tie.spec
-    digits-of-requires
     add-if1
-    put-digits-requires
-    put-cut-requires
+    cast-put-short
+    put-short-requires
     same-length
     returns
+    put-cut-requires
     same-length-2
     returns-2)

@@ -19,7 +19,8 @@ const HAD: Range<usize> = 37..38;
 const RUNS: Range<usize> = 38..54;
 const UNFINISHED: Range<usize> = 54..55;
 
-/// The place of the common period in the box.
+/// The places of the core count and the common period in the box.
+const CORES: usize = 0;
 const COMMON: usize = 2;
 
 /// What a place of the record, counted from 0, takes of a value: as many low bits as the product keeps there.
@@ -30,11 +31,15 @@ pub fn held(place: usize, value: u64) -> u64 {
 /// The bits that the product keeps of the number in a place.
 fn bits(place: usize) -> u32 {
     let Some(place) = place.checked_sub(BOX) else {
-        return if place == COMMON { 32 } else { 64 };
+        return if [CORES, COMMON].contains(&place) {
+            32
+        } else {
+            64
+        };
     };
     let place = place % TASK;
     let of = |fields: &[Range<usize>]| fields.iter().any(|field| field.contains(&place));
-    if of(&[WEIGHT, SHARES, COUNTS, PLACE]) {
+    if of(&[COST, PERIOD, WEIGHT, SHARES, COUNTS, PLACE]) {
         32
     } else if of(&[HAD, UNFINISHED]) {
         16

@@ -22,6 +22,9 @@ abbrev μ-loop : tie.MeasureT-loop
 sound-requires : tie.Need-sound-requires Inv-loop μ-loop
 sound-requires c κs = search needs
 
+cast-shared-tests : tie.Need-cast-shared-tests Inv-loop μ-loop
+cast-shared-tests c = search needs
+
 shared-tests-requires : tie.Need-shared-tests-requires Inv-loop μ-loop
 shared-tests-requires c κs = search needs
 
@@ -127,6 +130,7 @@ look-spec =
     Inv-loop
     μ-loop
     sound-requires
+    cast-shared-tests
     shared-tests-requires
     loop-holds
     mul-line

@@ -5,8 +5,14 @@ use borrow.Author.Needs.{needs}
 use Rattle.lateness.proofs.bounds.fixed_on.Statement.{statement}
 use Rattle.lateness.proofs.bounds.fixed_on.Tie as tie
 
+cast-own : tie.Need-cast-own
+cast-own c = search needs
+
 mul-own : tie.Need-mul-own
 mul-own c = search needs
+
+cast-own-2 : tie.Need-cast-own-2
+cast-own-2 c = search needs
 
 mul-own-2 : tie.Need-mul-own-2
 mul-own-2 c = search needs
@@ -53,7 +59,9 @@ pub fixed-on-spec : {M : Type 1} → statement M
 fixed-on-spec =
     tie.close
     (tie.spec
+    cast-own
     mul-own
+    cast-own-2
     mul-own-2
     add-own
     mul-own-3

@@ -22,6 +22,9 @@ at-requires c κs = search needs
 cast-result : tie.Need-cast-result
 cast-result c = search needs
 
+cast-result-2 : tie.Need-cast-result-2
+cast-result-2 c = search needs
+
 add-result : tie.Need-add-result
 add-result c = omega (arith, c .before .before .at .ensures)
 
@@ -34,4 +37,4 @@ returns : tie.Need-returns
 returns c = pushed c
 
 pub push-spec : {M : Type 1} → statement M
-push-spec = tie.close (tie.spec at-requires cast-result add-result mul-result returns)
+push-spec = tie.close (tie.spec at-requires cast-result cast-result-2 add-result mul-result returns)

@@ -5,8 +5,14 @@ use borrow.Author.Needs.{needs}
 use Rattle.lateness.proofs.bounds.reach_on.Statement.{statement}
 use Rattle.lateness.proofs.bounds.reach_on.Tie as tie
 
+cast-own : tie.Need-cast-own
+cast-own c = search needs
+
 mul-own : tie.Need-mul-own
 mul-own c = search needs
+
+cast-own-2 : tie.Need-cast-own-2
+cast-own-2 c = search needs
 
 add-own : tie.Need-add-own
 add-own c = search needs
@@ -36,7 +42,9 @@ pub reach-on-spec : {M : Type 1} → statement M
 reach-on-spec =
     tie.close
     (tie.spec
+    cast-own
     mul-own
+    cast-own-2
     add-own
     mul-own-2
     push-requires

@@ -14,11 +14,17 @@ put-field-requires c κs = search needs
 slice-aggregate-put-field-2 : tie.Need-slice-aggregate-put-field-2
 slice-aggregate-put-field-2 c = search needs
 
+cast-put-field : tie.Need-cast-put-field
+cast-put-field c = search needs
+
 put-field-requires-2 : tie.Need-put-field-requires-2
 put-field-requires-2 c κs = search needs
 
 slice-aggregate-put-field-3 : tie.Need-slice-aggregate-put-field-3
 slice-aggregate-put-field-3 c = search needs
+
+cast-put-field-2 : tie.Need-cast-put-field-2
+cast-put-field-2 c = search needs
 
 put-field-requires-3 : tie.Need-put-field-requires-3
 put-field-requires-3 c κs = search needs
@@ -26,8 +32,8 @@ put-field-requires-3 c κs = search needs
 slice-aggregate-put-field-4 : tie.Need-slice-aggregate-put-field-4
 slice-aggregate-put-field-4 c = search needs
 
-cast-put-field : tie.Need-cast-put-field
-cast-put-field c = search needs
+cast-put-field-3 : tie.Need-cast-put-field-3
+cast-put-field-3 c = search needs
 
 put-field-requires-4 : tie.Need-put-field-requires-4
 put-field-requires-4 c κs = search needs
@@ -40,8 +46,8 @@ unfolding headText
 returns c =
     let p4 = c .before .before in
     let p3 = p4 .before .before .before .before .before .before in
-    let p2 = p3 .before .before .before .before .before in
-    let p1 = p2 .before .before .before .before .before in (
+    let p2 = p3 .before .before .before .before .before .before in
+    let p1 = p2 .before .before .before .before .before .before in (
       then (then (then (p1 .put-field .ensures .0) (p2 .put-field2 .ensures .0)) (p3 .put-field3 .ensures .0)) (p4 .put-field4 .ensures .0),
       search needs,
     )
@@ -53,11 +59,13 @@ put-head-spec =
     slice-aggregate-put-field
     put-field-requires
     slice-aggregate-put-field-2
+    cast-put-field
     put-field-requires-2
     slice-aggregate-put-field-3
+    cast-put-field-2
     put-field-requires-3
     slice-aggregate-put-field-4
-    cast-put-field
+    cast-put-field-3
     put-field-requires-4
     same-length
     returns)

@@ -11,14 +11,17 @@ use Rattle.listing.proofs.writers.put_plan.Tie as tie
 slice-aggregate-put-field : tie.Need-slice-aggregate-put-field
 slice-aggregate-put-field c = search needs
 
+cast-put-field : tie.Need-cast-put-field
+cast-put-field c = search needs
+
 put-field-requires : tie.Need-put-field-requires
 put-field-requires c κs = search needs
 
 slice-aggregate-put-field-2 : tie.Need-slice-aggregate-put-field-2
 slice-aggregate-put-field-2 c = search needs
 
-cast-put-field : tie.Need-cast-put-field
-cast-put-field c = search needs
+cast-put-field-2 : tie.Need-cast-put-field-2
+cast-put-field-2 c = search needs
 
 put-field-requires-2 : tie.Need-put-field-requires-2
 put-field-requires-2 c κs = search needs
@@ -51,9 +54,10 @@ put-plan-spec =
     tie.close
     (tie.spec
     slice-aggregate-put-field
+    cast-put-field
     put-field-requires
     slice-aggregate-put-field-2
-    cast-put-field
+    cast-put-field-2
     put-field-requires-2
     put-byte-requires
     put-tasks-requires

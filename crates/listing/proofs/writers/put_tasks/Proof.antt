@@ -18,11 +18,11 @@ use Rattle.listing.proofs.writers.put_tasks.Statement.{statement}
 use Rattle.listing.proofs.writers.put_tasks.Tie as tie
 
 abbrev Inv-loop : tie.InvT-loop
-Inv-loop buf₀ at count lines lates next₀ i₀ buf next i =
-    (i ≤ count) × Wrote buf₀ at (tasksText lines lates i) buf next × (next ≤ at + 1000 * i) × (length buf ≡ length buf₀)
+Inv-loop buf₀ at plan lates next₀ i₀ buf next i =
+    (i ≤ plan .count) × Wrote buf₀ at (tasksText (plan .lines) lates i) buf next × (next ≤ at + 1000 * i) × (length buf ≡ length buf₀)
 
 abbrev μ-loop : tie.MeasureT-loop
-μ-loop buf₀ at count lines lates next₀ i₀ buf next i = count - i
+μ-loop buf₀ at plan lates next₀ i₀ buf next i = plan .count - i
 
 loop-holds : tie.Need-loop-holds Inv-loop μ-loop
 unfolding tasksText
@@ -31,8 +31,8 @@ loop-holds c = (search needs, none _ _, search needs, search needs)
 mul-line : tie.Need-mul-line Inv-loop μ-loop
 mul-line c = search needs
 
-array-copy-out-line : tie.Need-array-copy-out-line Inv-loop μ-loop
-array-copy-out-line c = search needs
+element-copy-out-line : tie.Need-element-copy-out-line Inv-loop μ-loop
+element-copy-out-line c = search needs
 
 mul-late : tie.Need-mul-late Inv-loop μ-loop
 mul-late c = search needs
@@ -60,8 +60,8 @@ loop-again c =
     let z = getD (a .t4) (l .i) (pos 0) in
     let f : SFits w64 z = search needs in (
       search needs,
-      recast (ap (λ (x : ℤ). tasksText (a .t3) (a .t4) (l .i) ++ taskText (l .i + 1) (getD (a .t3) (l .i) noLine) x) (toZ-ofZ w64 z f) ∙ tasks-more
-          (a .t3) (a .t4) (l .i)) (then (l .inv .1) (p .ensures .0)),
+      recast (ap (λ (x : ℤ). tasksText (a .t3 .lines) (a .t4) (l .i) ++ taskText (l .i + 1) (getD (a .t3 .lines) (l .i) noLine) x) (toZ-ofZ w64 z f) ∙ tasks-more
+          (a .t3 .lines) (a .t4) (l .i)) (then (l .inv .1) (p .ensures .0)),
       search needs,
       p .kept .0 ∙ l .inv .3,
     )
@@ -83,7 +83,7 @@ put-tasks-spec =
     μ-loop
     loop-holds
     mul-line
-    array-copy-out-line
+    element-copy-out-line
     mul-late
     array-copy-out-late
     add-put-task

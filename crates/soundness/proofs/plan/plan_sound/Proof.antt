@@ -44,15 +44,19 @@ tallies-of-requires c κs =
     let long : length (pl .lines) ≡ tasksLimit = sym (length-map (pl .lines) _) ∙ s .good .0 .1 .1 .1 .1 .1 .0 .1 .0 .1 in
     lines-weighed pl (numbers pl (ranges (c .before .before .before)) long) (and-left (allBelow tasksLimit (lineOk pl)) (commonIs pl) (tasks (c .before)))
 
+cast-cores-sound : tie.Need-cast-cores-sound
+cast-cores-sound c = search needs
+
 cores-sound-requires : tie.Need-cores-sound-requires
 cores-sound-requires c κs = search needs
 
 returns-3 : tie.Need-returns-3
 returns-3 c =
-    let pl = c .before .before .before .before .before .before .before .args .plan in
+    let q = c .before .before in
+    let pl = q .before .before .before .before .before .before .args .plan in
     c .cores-sound .ensures
-    ∙ sym (cores-decide pl (c .before .tallies-of .result) (ranges (c .before .before .before .before .before)) (tasks (c .before .before .before))
-    (c .before .tallies-of .ensures))
+    ∙ sym (cores-decide pl (q .tallies-of .result) (ranges (q .before .before .before .before)) (tasks (q .before .before))
+    (q .tallies-of .ensures))
 
 pub plan-sound-spec : {M : Type 1} → statement M
 plan-sound-spec =
@@ -63,5 +67,6 @@ plan-sound-spec =
     tasks-sound-requires
     returns-2
     tallies-of-requires
+    cast-cores-sound
     cores-sound-requires
     returns-3)

@@ -63,17 +63,14 @@ in-use c =
     let l = c .before .before .before .before in
     in-range (lineOf l) (sound-in (l .before .before .args .t1 .common) (lineOf l) (sound c))
 
-cast-divisor-with : tie.Need-cast-divisor-with Inv-loop μ-loop
-cast-divisor-with c = let r = in-use (c .before) in omega arith
-
 divisor-with-requires : tie.Need-divisor-with-requires Inv-loop μ-loop
-divisor-with-requires c κs = let r = in-use (c .before) in omega arith
+divisor-with-requires c κs = let r = in-use c in omega arith
 
 returns-2 : tie.Need-returns-2 Inv-loop μ-loop
 returns-2 c =
-    let l = c .before .before .before .before .before .before .before in
+    let l = c .before .before .before .before .before .before in
     sym (period-breaks (l .before .before .args .t1) (known (l .before .before)) (l .before .loop .divisor) (l .before .loop .i - 1)
-    (c .before .before .before .before .before .if1 .taken)
+    (c .before .before .before .before .if1 .taken)
     (sym (c .before .divisor-with .ensures) ∙ c .if3 .taken))
 
 loop-less : tie.Need-loop-less Inv-loop μ-loop
@@ -81,10 +78,10 @@ loop-less c = omega arith
 
 loop-again : tie.Need-loop-again Inv-loop μ-loop
 loop-again c =
-    let l = c .before .before .before .before .before .before .before in
+    let l = c .before .before .before .before .before .before in
     task-more (l .before .before .args .t1) (known (l .before .before)) (l .before .loop .divisor) (l .before .loop .i - 1) (tested l)
-    (c .before .before .before .before .before .if1 .taken)
-    (c .before .divisor-with .result) (sound (c .before .before .before)) (c .before .divisor-with .ensures) (c .if3 .left)
+    (c .before .before .before .before .if1 .taken)
+    (c .before .divisor-with .result) (sound (c .before .before)) (c .before .divisor-with .ensures) (c .if3 .left)
 
 line-empty-requires : tie.Need-line-empty-requires Inv-loop μ-loop
 line-empty-requires c κs = tt
@@ -123,7 +120,6 @@ tasks-sound-spec =
     element-copy-out-line
     line-sound-requires
     returns
-    cast-divisor-with
     divisor-with-requires
     returns-2
     loop-less

@@ -6,6 +6,9 @@ use Rattle.units.specs.Limits.{runsLimit}
 use Rattle.task_state.proofs.State.release_tests.Statement.{statement}
 use Rattle.task_state.proofs.State.release_tests.Tie as tie
 
+cast-if1 : tie.Need-cast-if1
+cast-if1 c = search needs
+
 add-if1 : tie.Need-add-if1
 add-if1 c = search needs
 
@@ -28,4 +31,4 @@ returns-3 c =
     rw (e .if1 .left, ne-eqb live runsLimit (c .if2 .left))
 
 pub release-tests-spec : {M : Type 1} → statement M
-release-tests-spec = tie.close (tie.spec add-if1 returns cast-if2 returns-2 returns-3)
+release-tests-spec = tie.close (tie.spec cast-if1 add-if1 returns cast-if2 returns-2 returns-3)

@@ -62,6 +62,9 @@ cast-live c = search needs
 returns : tie.Need-returns Inv-loop μ-loop
 returns c = rw (lt-leb _ _ (c .if1 .taken))
 
+cast-latest : tie.Need-cast-latest Inv-loop μ-loop
+cast-latest c = search needs
+
 add-latest : tie.Need-add-latest Inv-loop μ-loop
 add-latest c = omega arith
 
@@ -146,6 +149,7 @@ runs-sound-spec =
     μ-loop
     cast-live
     returns
+    cast-latest
     add-latest
     loop-holds
     element-copy-out-byte

@@ -25,6 +25,9 @@ core-in s =
 turn-of-requires : tie.Need-turn-of-requires
 turn-of-requires c κs = search needs
 
+cast-due : tie.Need-cast-due
+cast-due c = search needs
+
 add-due : tie.Need-add-due
 add-due c = search needs
 
@@ -57,6 +60,7 @@ with-run-spec =
     tie.close
     (tie.spec
     turn-of-requires
+    cast-due
     add-due
     cast-at
     mul-deadline
