@@ -1,20 +1,21 @@
 -- What a call may rely on once it has passed 15, 7 or 13, 12 and 8.
 use Prim.Native.Nat.{ℕ, _+_, _-_, _^_, _≤_, _<_}
 use mathlib.Core.Path.{_≡_}
-use mathlib.Core.Bool.{true}
 use native.Mathlib.Omega.{arith}
 use borrow.Author.Tests.{eq-eqb}
 use Rattle.units.specs.Limits.{coresLimit, tasksLimit, periodLimit, clockLimit}
-use Rattle.soundness.proofs.Facts.{cores-few, period-small, weight-small, shares-sum}
+use Rattle.soundness.proofs.Facts.{tasks-few, cores-few, period-small, weight-small, shares-sum}
 use Rattle.task_state.specs.Tests.{releaseTests, finishTests}
-use Rattle.task_state.specs.Key.{deadlineOf, waits}
+use Rattle.task_state.specs.Key.{deadlineOf}
 use Rattle.task_state.specs.Inner.{Releasable}
 use Rattle.task_state.proofs.Facts.{facts}
 use Rattle.task_state.proofs.Passed.{releasable, has-run}
 use Rattle.dispatch.specs.declared.Record.{Record}
 use Rattle.dispatch.specs.Record.{lineAt, stateAt}
+use Rattle.dispatch.specs.Look.{bestOf}
 use Rattle.dispatch.specs.Refusals.{taskTests, lookRefusal, releaseRefusal, finishRefusal}
-use Rattle.dispatch.proofs.Held.{held, task-below, state-sound, due-small, waits-due}
+use Rattle.dispatch.proofs.Held.{held, task-below, state-sound, due-small}
+use Rattle.dispatch.proofs.Looking.{best-of-all}
 use Rattle.dispatch.proofs.Passed.{task-passed, look-passed}
 
 -- task i, from 1, at time t: the numbers are in their ranges, the call's own tests decide, and a call that passes them can be taken
@@ -56,11 +57,13 @@ task-call {r} {i} {t} e =
       can-finish = λ z. has-run st z;
     }
 
--- core k, from 1: it is in its range, and a task that waits there has a deadline in its range
+-- core k, from 1: it is in its range, the tasks' deadlines are in theirs, and the best of the tasks is the best of all
 pub record CoreCall (r : Record) (k : ℕ) : Type 0 where
   pub from : 0 < k
   pub few : k ≤ coresLimit
-  pub due : (i : ℕ) → i < tasksLimit → waits (stateAt r i) k ≡ true → deadlineOf (stateAt r i) ≤ clockLimit + periodLimit
+  pub tasks : r .plan .count ≤ tasksLimit
+  pub due : (i : ℕ) → i < r .plan .count → deadlineOf (stateAt r i) ≤ clockLimit + periodLimit
+  pub all : bestOf r k tasksLimit ≡ bestOf r k (r .plan .count)
 
 -- so it is where none of 15, 13, 12 and 8 applies
 pub core-call : {r : Record} {k : ℕ} (t : ℕ) → lookRefusal r k t ≡ 0 → CoreCall r k
@@ -70,5 +73,7 @@ core-call {r} {k} t e =
     record {
       from = p .from;
       few = omega (arith, p .to, cores-few (r .plan) (s .plan));
-      due = λ i h w. waits-due r s i k h w;
+      tasks = tasks-few (r .plan) (s .plan);
+      due = due-small r s;
+      all = best-of-all r s k;
     }

@@ -1,7 +1,7 @@
 -- What a sound record holds.
 use Prim.Native.Nat.{ℕ, _+_, _≤_, _<_}
 use mathlib.Core.Path.{_≡_}
-use mathlib.Core.Bool.{true, not, _&&_}
+use mathlib.Core.Bool.{true, _&&_}
 use native.Mathlib.Omega.{arith}
 use lib.Dec.{ltb, eqb}
 use borrow.Author.Tests.{eqb-true, ltb-true, leb-true, lt-ltb, le-leb}
@@ -55,7 +55,7 @@ sound r h =
 -- an empty state waits on no core
 empty-waits : (st : State) (k : ℕ) → stateEmpty st ≡ true → waits st k ≡ true → ⊥
 empty-waits st k e w =
-    let a = eqb (total (st .counts)) 0 && eqb (st .place) 0 && eqb (st .last .0) 0 && not (st .had) in
+    let a = eqb (total (st .counts)) 0 && eqb (st .place) 0 && eqb (st .last .0) 0 && eqb (st .had) 0 in
     let b = eqb (st .live) 0 in
     let none = eqb-true (st .live) 0 (and-right a b (and-left (a && b) (runsEmpty st) e)) in
     let some = ltb-true 0 (st .live) (and-left (ltb 0 (st .live)) (eqb (runAt st 0 .core) k) w) in
@@ -82,7 +82,3 @@ module _ (r : Record) (s : Held r) (i : ℕ) where
         by-cases (ltb i (r .plan .count))
         (λ e. ltb-true i (r .plan .count) e)
         (λ e. absurd (empty-waits (stateAt r i) k (rw e at (s .states i l)) w))
-
-    -- so its deadline is small
-    pub waits-due : deadlineOf (stateAt r i) ≤ clockLimit + periodLimit
-    waits-due = due-small waits-in

@@ -10,7 +10,7 @@ use Rattle.dispatch.specs.Record.{stateAt}
 use Rattle.dispatch.specs.Sound.{soundOf}
 use Rattle.planning.specs.Shape.{PlanShaped}
 
--- the same of a record, with sixty-four states of sixteen counts and eight runs
+-- the same of a record, with sixty-four states of sixteen counts and eight deadlines and cores
 pub record Shaped (r : Record) : Type 0 where
   pub plan : PlanShaped (r .plan)
   pub states : length (r .states) ≡ tasksLimit

@@ -28,8 +28,8 @@ impl Record {
             let state = self.states[i];
             no = state.finish_tests();
             if no == 0 {
-                let oldest = state.runs[0];
-                late = time.0 as i64 - oldest.deadline.0 as i64;
+                let oldest = state.deadlines[0];
+                late = time.0 as i64 - oldest.0 as i64;
                 let after = state.without_run();
                 self.states[i] = after;
                 self.clock = time;

@@ -3,14 +3,12 @@ use crate::Record;
 use crate::refusals::shared_tests;
 use planning::Line;
 use task_state::State;
-use units::limits::TASKS;
 use units::refusal::Refusal;
 use units::ticks::Ticks;
 ghost use mathlib.Core.Path.{_≡_};
-ghost use mathlib.Core.Bool.{true};
 ghost use Prim.Native.Nat.{_+_, _<_, _≤_};
 ghost use Rattle.units.specs.Limits.{coresLimit, periodLimit, clockLimit};
-ghost use Rattle.task_state.specs.Key.{deadlineOf, waits};
+ghost use Rattle.task_state.specs.Key.{deadlineOf};
 ghost use Rattle.dispatch.specs.Look.{betterTask, choiceBy, lookOf};
 
 // Where a mover stands on a core: lower on its first core, upper on any other.
@@ -41,7 +39,7 @@ pub struct Looked {
 
 // The better of the best task so far and another, from 1.
 fn better_task(best: Best, task: usize, line: Line, state: State, core: usize) -> Best
-    requires { ⌜ (0 < core) × (core ≤ coresLimit) × (waits state core ≡ true → deadlineOf state ≤ clockLimit + periodLimit) ⌝ }
+    requires { ⌜ (0 < core) × (core ≤ coresLimit) × (deadlineOf state ≤ clockLimit + periodLimit) ⌝ }
     ensures { λ r. ⌜ r ≡ betterTask best task line state core ⌝ }
 {
     if !state.waits(core) {
@@ -64,8 +62,7 @@ impl Best {
         ensures { λ r. ⌜ r ≡ choiceBy self (deadlineOf state) ⌝ }
     {
         let task = self.task;
-        let run = state.runs[0];
-        let deadline = run.deadline;
+        let deadline = state.deadlines[0];
         if self.key == 0 {
             return Choice::Mover(task, deadline, Side::Upper);
         }
@@ -95,9 +92,10 @@ impl Record {
         let mut choice = Choice::Idle;
         if no == 0 {
             let lines = self.plan.lines;
+            let count = self.plan.count;
             let mut best = Best { task: 0, key: 0 };
             let mut i: usize = 0;
-            while i < TASKS {
+            while i < count {
                 let line = lines[i];
                 let state = self.states[i];
                 i += 1;

@@ -9,6 +9,10 @@ lineNumbers = 19
 abbrev pub stateNumbers : ℕ
 stateNumbers = 36
 
+-- its runs
+abbrev pub runNumbers : ℕ
+runNumbers = 16
+
 -- a record
 abbrev pub recordNumbers : ℕ
 recordNumbers = 3524

@@ -1,14 +1,15 @@
 // A number of a task's line or state changed, in the order in which the input has them.
+use crate::numbers::low_byte;
 use crate::numbers::low_half;
+use crate::numbers::low_quarter;
 use planning::Line;
-use task_state::Run;
 use task_state::State;
 use units::limits::CORES;
 use units::share::Share;
 use units::ticks::Duration;
 use units::ticks::Ticks;
 ghost use Prim.Native.Nat.{_<_};
-ghost use Rattle.spoilt_records.specs.Inner.{lineNumbers, stateNumbers};
+ghost use Rattle.spoilt_records.specs.Inner.{lineNumbers, stateNumbers, runNumbers};
 
 // The numbers of a line: cost, period, weight, a share a core.
 pub const LINE: usize = 19;
@@ -39,15 +40,19 @@ pub fn line_with(line: Line, k: usize, value: u64) -> Line
     next
 }
 
-// A run with its core or its deadline changed.
-fn run_with(run: Run, core: bool, value: u64) -> Run {
-    let mut next = run;
-    if core {
-        next.core = value as usize;
+// A state with the k-th number, from 0, of its runs changed: a core and a deadline a run.
+fn run_with(state: State, k: usize, value: u64) -> State
+    requires { ⌜ k < runNumbers ⌝ }
+{
+    let mut next = state;
+    let at = k / 2;
+    if k % 2 == 0 {
+        let core = low_byte(value);
+        next.cores[at] = core;
         return next;
     }
-    let ticks = Ticks(value);
-    next.deadline = ticks;
+    let deadline = Ticks(value);
+    next.deadlines[at] = deadline;
     next
 }
 
@@ -71,17 +76,12 @@ pub fn state_with(state: State, k: usize, value: u64) -> State
         return next;
     }
     if k == 18 {
-        next.had = value != 0;
+        next.had = low_quarter(value);
         return next;
     }
     if k == 35 {
-        next.live = value as usize;
+        next.live = low_quarter(value);
         return next;
     }
-    let from = k - 19;
-    let at = from / 2;
-    let run = next.runs[at];
-    let after = run_with(run, from % 2 == 0, value);
-    next.runs[at] = after;
-    next
+    run_with(next, k - 19, value)
 }

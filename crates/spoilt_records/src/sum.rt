@@ -1,12 +1,12 @@
 // A checksum of all numbers of a record, in the order in which the input has them.
 use dispatch::Record;
 use planning::Line;
-use task_state::Run;
 use task_state::State;
 use units::limits::CORES;
 use units::limits::RUNS;
 use units::limits::TASKS;
 use units::share::Share;
+use units::ticks::Ticks;
 ghost use Prim.Native.Nat.{_<_};
 ghost use Rattle.spoilt_records.specs.Inner.{sumLimit};
 
@@ -66,16 +66,17 @@ fn counts_sum(h: u64, counts: [u32; CORES]) -> u64
 }
 
 // The checksum after a task's runs.
-fn runs_sum(h: u64, runs: [Run; RUNS]) -> u64
+fn runs_sum(h: u64, cores: [u8; RUNS], deadlines: [Ticks; RUNS]) -> u64
     requires { ⌜ h < sumLimit ⌝ }
     ensures { λ r. ⌜ r < sumLimit ⌝ }
 {
     let mut sum = h;
     let mut k: usize = 0;
     while k < RUNS {
-        let run = runs[k];
-        let half = sum_with(sum, run.core as u64);
-        sum = sum_with(half, run.deadline.0);
+        let core = cores[k];
+        let deadline = deadlines[k];
+        let half = sum_with(sum, core as u64);
+        sum = sum_with(half, deadline.0);
         k += 1;
     }
     sum
@@ -87,12 +88,13 @@ fn state_sum(h: u64, state: State) -> u64
     ensures { λ r. ⌜ r < sumLimit ⌝ }
 {
     let counts = state.counts;
-    let runs = state.runs;
+    let cores = state.cores;
+    let deadlines = state.deadlines;
     let a = counts_sum(h, counts);
     let b = sum_with(a, state.place as u64);
     let c = sum_with(b, state.last.0);
     let d = sum_with(c, state.had as u64);
-    let e = runs_sum(d, runs);
+    let e = runs_sum(d, cores, deadlines);
     sum_with(e, state.live as u64)
 }
 

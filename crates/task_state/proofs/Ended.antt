@@ -2,19 +2,18 @@
 use Prim.Native.Nat.{ℕ, suc, _-_, _≤_, _<_}
 use mathlib.Core.Path.{_≡_, _∙_}
 use mathlib.Core.Bool.{true}
-use mathlib.Core.List.{[], _∷_}
 use native.Mathlib.Omega.{arith}
 use borrow.Author.Tests.{ltb-true, ltb-false, lt-ltb, le-ltb}
 use lib.Dec.{ltb}
-use lib.ListN.{drop, length-append, length-drop, List·getD-eq-default}
+use lib.ListN.{List·getD-eq-default}
 use Rattle.units.specs.Limits.{runsLimit}
+use Rattle.units.specs.Units.{ticks}
 use Rattle.lists.proofs.Tests.{by-cases, same-bool}
 use Rattle.planning.specs.declared.Line.{Line}
 use Rattle.task_state.specs.declared.State.{State}
-use Rattle.task_state.specs.State.{noRun}
 use Rattle.task_state.specs.Sound.{runRule, stateSound}
 use Rattle.task_state.specs.Runs.{withoutRun}
-use Rattle.task_state.proofs.Oldest.{next-run}
+use Rattle.task_state.proofs.Oldest.{next-up, up-long}
 use Rattle.task_state.proofs.Facts.{facts, from-facts}
 use Rattle.task_state.specs.Shape.{Shaped}
 
@@ -22,8 +21,9 @@ use Rattle.task_state.specs.Shape.{Shaped}
 pub without-shaped : (st : State) → Shaped st → Shaped (withoutRun st)
 unfolding withoutRun
 without-shaped st shaped = record {
+  deadlines = up-long (ticks 0) (st .deadlines) (shaped .deadlines);
   counts = shaped .counts;
-  runs = length-append (drop 1 (st .runs)) (noRun ∷ []) ∙ simp length-drop (omega (arith, shaped .runs));
+  cores = up-long 0 (st .cores) (shaped .cores);
 }
 
 -- below one less
@@ -37,14 +37,15 @@ module _ (ln : Line) (st : State) (shaped : Shaped st) (sound : stateSound ln st
   -- each run has the rule of the one after it
   without-rule : (k : ℕ) → runRule ln (withoutRun st) k ≡ runRule ln st (suc k)
   unfolding withoutRun
-  without-rule k = rw (below-less k (st .live), next-run (st .runs) k)
+  without-rule k = rw (below-less k (st .live), next-up 0 (st .cores) k, next-up (ticks 0) (st .deadlines) k)
 
   -- past the eighth there is none
   last-rule : (k : ℕ) → runsLimit ≤ k → runRule ln st k ≡ true
   last-rule k h =
       rw (
         le-ltb k (st .live) (omega (arith, facts ln st sound .few)),
-        List·getD-eq-default (st .runs) noRun {n = k} (omega (arith, shaped .runs)),
+        List·getD-eq-default (st .cores) 0 {n = k} (omega (arith, shaped .cores)),
+        List·getD-eq-default (st .deadlines) (ticks 0) {n = k} (omega (arith, shaped .deadlines)),
       )
 
   -- so each keeps its rule
@@ -65,6 +66,7 @@ module _ (ln : Line) (st : State) (shaped : Shaped st) (sound : stateSound ln st
         rules = without-rules;
         counts = f .counts;
         below = f .below;
+        flag = f .flag;
         last = f .last;
         had = f .had;
       })

@@ -24,8 +24,9 @@ pub record Facts (ln : Line) (st : State) : Type 0 where
   pub rules : (k : ℕ) → k < runsLimit → runRule ln st k ≡ true
   pub counts : total (st .counts) ≡ st .place
   pub below : st .place < ln .weight .0
+  pub flag : st .had ≤ 1
   pub last : st .last .0 ≤ clockLimit
-  pub had : (st .had || eqb (st .last .0) 0) ≡ true
+  pub had : (eqb (st .had) 1 || eqb (st .last .0) 0) ≡ true
 
 module _ (ln : Line) (st : State) where
   -- soundness says them
@@ -38,15 +39,18 @@ module _ (ln : Line) (st : State) where
       let last = and-right (runsSound ln st && turnSound ln st) (lastSound st) e in
       let summed = eqb (total (st .counts)) (st .place) in
       let below = ltb (st .place) (ln .weight .0) in
+      let flag = leb (st .had) 1 in
       let within = leb (st .last .0) clockLimit in
-      let had = st .had || eqb (st .last .0) 0 in
+      let had = eqb (st .had) 1 || eqb (st .last .0) 0 in
+      let range = and-left (flag && within) had last in
       record {
         few = leb-true (st .live) runsLimit (and-left (leb (st .live) runsLimit) rules runs);
         rules = λ k l. all-at runsLimit k (λ j. runRule ln st j) l (and-right (leb (st .live) runsLimit) rules runs);
         counts = eqb-true (total (st .counts)) (st .place) (and-left summed below turn);
         below = ltb-true (st .place) (ln .weight .0) (and-right summed below turn);
-        last = leb-true (st .last .0) clockLimit (and-left within had last);
-        had = and-right within had last;
+        flag = leb-true (st .had) 1 (and-left flag within range);
+        last = leb-true (st .last .0) clockLimit (and-right flag within range);
+        had = and-right (flag && within) had last;
       }
 
   -- and they say it
@@ -57,6 +61,7 @@ module _ (ln : Line) (st : State) where
         all-from runsLimit (λ k. runRule ln st k) (f .rules),
         eq-eqb (total (st .counts)) (st .place) (f .counts),
         lt-ltb (st .place) (ln .weight .0) (f .below),
+        le-leb (st .had) 1 (f .flag),
         le-leb (st .last .0) clockLimit (f .last),
       ) (f .had)
 

@@ -22,4 +22,4 @@ fresh-empty = refl
 -- of the right lengths
 pub fresh-shaped : Shaped freshState
 unfolding freshState
-fresh-shaped = record { counts = refl; runs = refl }
+fresh-shaped = record { deadlines = refl; counts = refl; cores = refl }

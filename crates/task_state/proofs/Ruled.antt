@@ -1,7 +1,7 @@
 -- The rules as the code tests them: a run's by its task's shares and the latest deadline, a state's by the sum of its counts first.
 use Prim.Native.Nat.{ℕ, _+_, _-_, _≤_, _<_}
 use mathlib.Core.Path.{_≡_, sym, _∙_}
-use mathlib.Core.Bool.{Bool, true, false, cond, not, _&&_, and-false, and-self, and-comm, and-assoc}
+use mathlib.Core.Bool.{Bool, true, false, cond, _&&_, and-false, and-self, and-comm, and-assoc}
 use mathlib.Core.List.{List}
 use borrow.Author.Tests.{ltb-true, leb-true, eqb-true, eqb-false, ne-eqb, lt-ltb, le-ltb}
 use lib.Dec.{ltb, leb, eqb}
@@ -70,5 +70,5 @@ module _ (st : State) where
     used-left ln = rw e (last-first (ltb (st .place) (ln .weight .0)) (lastSound st) (runsSound ln st))
 
     -- and of another
-    pub other-left : (eqb (st .place) 0 && eqb (st .last .0) 0 && not (st .had) && eqb (st .live) 0 && runsEmpty st) ≡ stateEmpty st
+    pub other-left : (eqb (st .place) 0 && eqb (st .last .0) 0 && eqb (st .had) 0 && eqb (st .live) 0 && runsEmpty st) ≡ stateEmpty st
     other-left = rw (eqb-true (total (st .counts)) (st .place) e, and-self (eqb (st .place) 0))

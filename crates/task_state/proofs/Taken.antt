@@ -9,13 +9,14 @@ use lib.Dec.{ltb}
 use lib.ListN.{length, length-set}
 use lib.Seq.{getD-set-same, getD-set-other}
 use Rattle.units.specs.Limits.{coresLimit, clockLimit, runsLimit}
+use Rattle.units.specs.Units.{ticks}
 use Rattle.lists.proofs.Tests.{same-bool}
 use Rattle.planning.specs.declared.Line.{Line}
 use Rattle.planning.specs.Plan.{rowOf}
 use Rattle.turn.specs.Inner.{Turnable}
 use Rattle.turn.proofs.Keeps.{Kept, turn-keeps}
 use Rattle.task_state.specs.declared.State.{State}
-use Rattle.task_state.specs.State.{run, noRun}
+use Rattle.task_state.specs.State.{run}
 use Rattle.task_state.specs.Sound.{runRule, stateSound}
 use Rattle.task_state.specs.Runs.{turnAt, withRun}
 use Rattle.task_state.proofs.RunFacts.{from-run-facts}
@@ -44,8 +45,9 @@ module _
   pub with-shaped : Shaped (withRun ln st t)
   unfolding withRun
   with-shaped = record {
+    deadlines = length-set (st .deadlines) (st .live) (ticks (t + ln .period .0)) ∙ shaped .deadlines;
     counts = kept .long;
-    runs = length-set (st .runs) (st .live) (run (turnAt ln st .core) (t + ln .period .0)) ∙ shaped .runs;
+    cores = length-set (st .cores) (st .live) (turnAt ln st .core) ∙ shaped .cores;
   }
 
   module _ (room : st .live < runsLimit) (time : t ≤ clockLimit) (sound : stateSound ln st ≡ true) where
@@ -53,15 +55,23 @@ module _
     with-new : runRule ln (withRun ln st t) (st .live) ≡ true
     unfolding withRun
     with-new =
-        let new = run (turnAt ln st .core) (t + ln .period .0) in
-        rw (lt-ltb (st .live) (st .live + 1) (omega arith), getD-set-same (st .runs) (st .live) new noRun (omega (arith, shaped .runs)))
-        (from-run-facts ln new (record { from = kept .from; to = kept .to; share = kept .share; due = omega arith }))
+        let due = t + ln .period .0 in
+        rw (
+          lt-ltb (st .live) (st .live + 1) (omega arith),
+          getD-set-same (st .cores) (st .live) (turnAt ln st .core) 0 (omega (arith, shaped .cores)),
+          getD-set-same (st .deadlines) (st .live) (ticks due) (ticks 0) (omega (arith, shaped .deadlines)),
+        )
+        (from-run-facts ln (run (turnAt ln st .core) due) (record { from = kept .from; to = kept .to; share = kept .share; due = omega arith }))
 
     -- the others stand as they did
     with-others : (k : ℕ) → (k ≡ st .live → ⊥) → k < runsLimit → runRule ln (withRun ln st t) k ≡ true
     unfolding withRun
     with-others k n l =
-        rw (below-more k (st .live) n, getD-set-other (st .runs) (st .live) k (run (turnAt ln st .core) (t + ln .period .0)) noRun n)
+        rw (
+          below-more k (st .live) n,
+          getD-set-other (st .cores) (st .live) k (turnAt ln st .core) 0 n,
+          getD-set-other (st .deadlines) (st .live) k (ticks (t + ln .period .0)) (ticks 0) n,
+        )
         (facts ln st sound .rules k l)
 
     -- so each keeps its rule
@@ -81,6 +91,7 @@ module _
           rules = with-rules;
           counts = kept .counts;
           below = kept .below;
+          flag = omega arith;
           last = time;
           had = refl;
         })

@@ -1,6 +1,5 @@
 -- A task's runs: one more, and the oldest ended.
 use Prim.Native.Nat.{ℕ, _+_, _-_}
-use mathlib.Core.Bool.{true}
 use mathlib.Core.List.{[], _∷_, _++_}
 use lib.ListN.{drop, set}
 use Rattle.units.specs.Units.{ticks}
@@ -10,7 +9,6 @@ use Rattle.turn.specs.declared.Turn.{Turn}
 use Rattle.turn.specs.Turn.{turnOf}
 use Rattle.task_state.specs.declared.State.{State}
 use Rattle.task_state.specs.declared.runs.Taken.{Taken}
-use Rattle.task_state.specs.State.{run, noRun}
 
 -- the turn of a task's next run
 abbrev pub turnAt : Line → State → Turn
@@ -19,12 +17,13 @@ turnAt ln st = turnOf (ln .weight .0) (st .place) (rowOf ln) (st .counts)
 -- the task after the release of a run at time t: one run more, counted in the turn cycle
 unfoldable pub withRun : Line → State → ℕ → State
 withRun ln st t = record {
+  last = ticks t;
+  deadlines = set (st .deadlines) (st .live) (ticks (t + ln .period .0));
   counts = turnAt ln st .counts;
   place = turnAt ln st .place;
-  last = ticks t;
-  had = true;
-  runs = set (st .runs) (st .live) (run (turnAt ln st .core) (t + ln .period .0));
+  cores = set (st .cores) (st .live) (turnAt ln st .core);
   live = st .live + 1;
+  had = 1;
 }
 
 -- the same, with the run's core and deadline
@@ -34,10 +33,11 @@ takenRun ln st t = record { state = withRun ln st t; core = turnAt ln st .core; 
 -- the task without its oldest run: the others move up
 unfoldable pub withoutRun : State → State
 withoutRun st = record {
+  last = st .last;
+  deadlines = drop 1 (st .deadlines) ++ (ticks 0 ∷ []);
   counts = st .counts;
   place = st .place;
-  last = st .last;
-  had = st .had;
-  runs = drop 1 (st .runs) ++ (noRun ∷ []);
+  cores = drop 1 (st .cores) ++ (0 ∷ []);
   live = st .live - 1;
+  had = st .had;
 }

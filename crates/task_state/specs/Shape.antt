@@ -5,5 +5,6 @@ use Rattle.units.specs.Limits.{coresLimit, runsLimit}
 use Rattle.task_state.specs.declared.State.{State}
 
 pub record Shaped (st : State) : Type 0 where
+  pub deadlines : length (st .deadlines) ≡ runsLimit
   pub counts : length (st .counts) ≡ coresLimit
-  pub runs : length (st .runs) ≡ runsLimit
+  pub cores : length (st .cores) ≡ runsLimit

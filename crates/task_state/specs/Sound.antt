@@ -1,6 +1,6 @@
 -- The rules of soundness for one task's state, document 01, "Refusal numbers". Cores of runs are from 1.
 use Prim.Native.Nat.{ℕ, _+_, _-_}
-use mathlib.Core.Bool.{Bool, cond, not, _&&_, _||_}
+use mathlib.Core.Bool.{Bool, cond, _&&_, _||_}
 use lib.Dec.{ltb, leb, eqb}
 use lib.ListN.{getD}
 use Rattle.units.specs.Limits.{coresLimit, clockLimit, runsLimit}
@@ -35,9 +35,9 @@ runsSound ln st = leb (st .live) runsLimit && allBelow runsLimit (λ k. runRule 
 abbrev pub turnSound : Line → State → Bool
 turnSound ln st = eqb (total (st .counts)) (st .place) && ltb (st .place) (ln .weight .0)
 
--- a last release is within the clock's range, and 0 where there was none
+-- the flag is 0 or 1; a last release is within the clock's range, and 0 where there was none
 abbrev pub lastSound : State → Bool
-lastSound st = leb (st .last .0) clockLimit && (st .had || eqb (st .last .0) 0)
+lastSound st = leb (st .had) 1 && leb (st .last .0) clockLimit && (eqb (st .had) 1 || eqb (st .last .0) 0)
 
 -- the rules for a task in use
 abbrev pub stateSound : Line → State → Bool
@@ -50,5 +50,5 @@ runsEmpty st = allBelow runsLimit (λ k. runEmpty (runAt st k))
 -- past the N tasks all numbers are 0
 abbrev pub stateEmpty : State → Bool
 stateEmpty st =
-    eqb (total (st .counts)) 0 && eqb (st .place) 0 && eqb (st .last .0) 0 && not (st .had) && eqb (st .live) 0
+    eqb (total (st .counts)) 0 && eqb (st .place) 0 && eqb (st .last .0) 0 && eqb (st .had) 0 && eqb (st .live) 0
     && runsEmpty st

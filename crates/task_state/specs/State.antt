@@ -1,6 +1,5 @@
--- What a task is at: its turn counts and their place, its last release, its unfinished runs.
+-- What a task is at: its last release, its unfinished runs, its turn counts and their place.
 use Prim.Native.Nat.{ℕ}
-use mathlib.Core.Bool.{false}
 use mathlib.Core.List.{[]}
 use lib.ListN.{getD, replicate}
 use Rattle.units.specs.Limits.{coresLimit, runsLimit}
@@ -13,25 +12,22 @@ use Rattle.task_state.specs.declared.State.{State}
 abbrev pub run : ℕ → ℕ → Run
 run k d = record { core = k; deadline = ticks d }
 
--- no run
-abbrev pub noRun : Run
-noRun = run 0 0
-
 -- a task that has had no run
 unfoldable pub freshState : State
 freshState = record {
+  last = ticks 0;
+  deadlines = replicate runsLimit (ticks 0);
   counts = zeros coresLimit;
   place = 0;
-  last = ticks 0;
-  had = false;
-  runs = replicate runsLimit noRun;
+  cores = zeros runsLimit;
   live = 0;
+  had = 0;
 }
 
 -- what stands past the last state
 abbrev pub noState : State
-noState = record { counts = []; place = 0; last = ticks 0; had = false; runs = []; live = 0 }
+noState = record { last = ticks 0; deadlines = []; counts = []; place = 0; cores = []; live = 0; had = 0 }
 
 -- a task's k-th unfinished run, oldest first, from 0
 abbrev pub runAt : State → ℕ → Run
-runAt st k = getD (st .runs) k noRun
+runAt st k = run (getD (st .cores) k 0) (getD (st .deadlines) k (ticks 0) .0)

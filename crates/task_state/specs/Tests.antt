@@ -9,7 +9,7 @@ use Rattle.task_state.specs.declared.State.{State}
 
 -- 9: a release less than T after this task's last accepted release
 abbrev pub early : Line → State → ℕ → Bool
-early ln st t = st .had && ltb t (st .last .0 + ln .period .0)
+early ln st t = eqb (st .had) 1 && ltb t (st .last .0 + ln .period .0)
 
 -- a release is tested for 9, then 10: 8 runs of the task are unfinished
 abbrev pub releaseTests : Line → State → ℕ → ℕ

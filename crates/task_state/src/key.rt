@@ -16,8 +16,8 @@ impl State {
     pub fn waits(self, core: usize) -> bool
         ensures { λ r. ⌜ r ≡ waitsOn self core ⌝ }
     {
-        let run = self.runs[0];
-        (0 < self.live) & (run.core == core)
+        let at = self.cores[0];
+        (0 < self.live) & (at as usize == core)
     }
 
     // The least key goes first: an upper mover, then a lower one, then fixed tasks by earliest deadline.
@@ -26,12 +26,12 @@ impl State {
         ensures { λ r. ⌜ r ≡ keyOf line self core ⌝ }
     {
         let shares = line.shares;
-        let run = self.runs[0];
+        let deadline = self.deadlines[0];
         let at = core - 1;
         let s = shares[at];
         let moves = moves_by(parts_of(shares));
         let first = first_core(shares);
-        let due = 2 + run.deadline.0;
+        let due = 2 + deadline.0;
         match stands(moves, s, first, at) {
             Standing::Upper => 0,
             Standing::Lower => 1,

@@ -14,30 +14,27 @@ pub struct Run {
     pub deadline: Ticks,
 }
 
-impl Run {
-    pub const NONE: Run = Run {
-        core: 0,
-        deadline: Ticks(0),
-    };
-}
-
-// What a task is at: its turn counts and their place in the cycle, its last release if it had one, its unfinished runs, oldest first.
+// What a task is at: its last release, its unfinished runs' deadlines and cores from 1, oldest first, its turn counts and their place in the cycle,
+// how many runs are unfinished, and 1 if it had a release, else 0.
+// No padding, and each number of any value: the record can be lent as it is.
 pub struct State {
+    pub last: Ticks,
+    pub deadlines: [Ticks; RUNS],
     pub counts: [u32; CORES],
     pub place: u32,
-    pub last: Ticks,
-    pub had: bool,
-    pub runs: [Run; RUNS],
-    pub live: usize,
+    pub cores: [u8; RUNS],
+    pub live: u16,
+    pub had: u16,
 }
 
 impl State {
     pub const FRESH: State = State {
+        last: Ticks(0),
+        deadlines: [Ticks(0); RUNS],
         counts: [0; CORES],
         place: 0,
-        last: Ticks(0),
-        had: false,
-        runs: [Run::NONE; RUNS],
+        cores: [0; RUNS],
         live: 0,
+        had: 0,
     };
 }

@@ -64,15 +64,22 @@ impl State {
         requires { ⌜ line .period .0 ≤ periodLimit ⌝ }
         ensures { λ r. ⌜ r ≡ runsSound line self ⌝ }
     {
-        if RUNS < self.live {
+        let live = self.live as usize;
+        if RUNS < live {
             return false;
         }
         let shares = line.shares;
         let latest = CLOCK + line.period.0 as u64;
         let mut k: usize = 0;
         while k < RUNS {
-            let run = self.runs[k];
-            if k < self.live {
+            let byte = self.cores[k];
+            let core = byte as usize;
+            let deadline = self.deadlines[k];
+            let run = Run {
+                core: core,
+                deadline: deadline,
+            };
+            if k < live {
                 if !run.placed() {
                     return false;
                 }
@@ -89,11 +96,11 @@ impl State {
         true
     }
 
-    // A last release is within the clock's range, and 0 where there was none.
+    // The flag is 0 or 1; a last release is within the clock's range, and 0 where there was none.
     fn last_sound(self) -> bool
         ensures { λ r. ⌜ r ≡ lastSound self ⌝ }
     {
-        (self.last.0 <= CLOCK) & (self.had | (self.last.0 == 0))
+        (self.had <= 1) & (self.last.0 <= CLOCK) & ((self.had == 1) | (self.last.0 == 0))
     }
 
     // No run stands.
@@ -102,7 +109,13 @@ impl State {
     {
         let mut k: usize = 0;
         while k < RUNS {
-            let run = self.runs[k];
+            let byte = self.cores[k];
+            let core = byte as usize;
+            let deadline = self.deadlines[k];
+            let run = Run {
+                core: core,
+                deadline: deadline,
+            };
             if !run.empty() {
                 return false;
             }
@@ -123,6 +136,10 @@ impl State {
         if used {
             return (self.place < line.weight.0) & self.last_sound() & self.runs_sound(line);
         }
-        (self.place == 0) & (self.last.0 == 0) & !self.had & (self.live == 0) & self.runs_empty()
+        (self.place == 0)
+            & (self.last.0 == 0)
+            & (self.had == 0)
+            & (self.live == 0)
+            & self.runs_empty()
     }
 }

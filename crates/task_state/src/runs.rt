@@ -1,5 +1,4 @@
 // A task's runs: one more, and the oldest ended.
-use crate::Run;
 use crate::State;
 use planning::Line;
 use turn::turn_of;
@@ -28,19 +27,16 @@ impl State {
         let due = time.0 + line.period.0 as u64;
         let deadline = Ticks(due);
         let core = turn.core;
-        let run = Run {
-            core: core,
-            deadline: deadline,
-        };
         let counted = turn.counts;
-        let at = self.live;
+        let at = self.live as usize;
         let mut state = self;
         state.counts = counted;
         state.place = turn.place;
         state.last = time;
-        state.had = true;
-        state.runs[at] = run;
-        state.live = at + 1;
+        state.deadlines[at] = deadline;
+        state.cores[at] = core as u8;
+        state.live = self.live + 1;
+        state.had = 1;
         Taken {
             state: state,
             core: core,
@@ -53,16 +49,25 @@ impl State {
         requires { ⌜ 0 < self .live ⌝ }
         ensures { λ r. ⌜ r ≡ withoutRun self ⌝ }
     {
-        let r1 = self.runs[1];
-        let r2 = self.runs[2];
-        let r3 = self.runs[3];
-        let r4 = self.runs[4];
-        let r5 = self.runs[5];
-        let r6 = self.runs[6];
-        let r7 = self.runs[7];
-        let runs = [r1, r2, r3, r4, r5, r6, r7, Run::NONE];
+        let d1 = self.deadlines[1];
+        let d2 = self.deadlines[2];
+        let d3 = self.deadlines[3];
+        let d4 = self.deadlines[4];
+        let d5 = self.deadlines[5];
+        let d6 = self.deadlines[6];
+        let d7 = self.deadlines[7];
+        let deadlines = [d1, d2, d3, d4, d5, d6, d7, Ticks(0)];
+        let c1 = self.cores[1];
+        let c2 = self.cores[2];
+        let c3 = self.cores[3];
+        let c4 = self.cores[4];
+        let c5 = self.cores[5];
+        let c6 = self.cores[6];
+        let c7 = self.cores[7];
+        let cores = [c1, c2, c3, c4, c5, c6, c7, 0];
         let mut state = self;
-        state.runs = runs;
+        state.deadlines = deadlines;
+        state.cores = cores;
         state.live = self.live - 1;
         state
     }

@@ -15,10 +15,10 @@ impl State {
         requires { ⌜ (self .last .0 ≤ clockLimit) × (line .period .0 ≤ periodLimit) ⌝ }
         ensures { λ r. ⌜ r ≡ releaseTests line self (time .0) ⌝ }
     {
-        if self.had & (time.0 < self.last.0 + line.period.0 as u64) {
+        if (self.had == 1) & (time.0 < self.last.0 + line.period.0 as u64) {
             return Refusal::EARLY;
         }
-        if self.live == RUNS {
+        if self.live as usize == RUNS {
             return Refusal::BACKLOG;
         }
         0

@@ -4,7 +4,7 @@
 use compare::batch::Batch;
 use compare::random::Random;
 use compare::spoilt_records;
-use std::collections::BTreeMap;
+use std::collections::{BTreeMap, BTreeSet};
 
 /// Numbers of a record, of its box and of a task.
 const NUMBERS: usize = 3_524;
@@ -44,13 +44,44 @@ fn batches() -> Vec<Batch> {
         .collect()
 }
 
-/// No number is asked for that the product cannot hold, none beyond the record.
-fn check_limits(index: usize, value: u64) {
-    assert!(index <= NUMBERS);
-    match field(index) {
-        "weight" | "share" | "turns" | "common" => assert!(value < 1 << 32),
-        "had" => assert!(value <= 1),
-        _ => {}
+/// Numbers beside a limit and at the edges of the product's widths, each of which must be asked for.
+const EDGES: [(&str, u64); 18] = [
+    ("had", 2),
+    ("had", 65_535),
+    ("had", 65_536),
+    ("run's core", 17),
+    ("run's core", 255),
+    ("run's core", 256),
+    ("unfinished", 9),
+    ("unfinished", 65_535),
+    ("unfinished", 65_536),
+    ("place", 4_294_967_295),
+    ("place", 4_294_967_296),
+    ("share", 4_294_967_296),
+    ("turns", 4_294_967_296),
+    ("weight", 4_294_967_296),
+    ("cost", 4_294_967_296),
+    ("period", 4_294_967_296),
+    ("cores", 4_294_967_296),
+    ("common", 4_294_967_296),
+];
+
+#[test]
+fn edges() {
+    let mut asked = BTreeSet::new();
+    for case in batches().iter().flat_map(|batch| &batch.cases) {
+        let (index, value) = (number(&case.input, 4, 4), number(&case.input, 8, 8));
+        let field = field(index as usize);
+        // A flag of 16 bits that is neither 0 nor 1 is unsound, and so refused by 15 in every call.
+        if field == "had" && value % 65_536 > 1 {
+            let refused = number(&case.input, 0, 4) > 0;
+            let answer: &[u8] = if refused { b"0 15 " } else { b"0 0 " };
+            assert!(case.answer.starts_with(answer), "a flag of {value}");
+        }
+        asked.insert((field, value));
+    }
+    for edge in EDGES {
+        assert!(asked.contains(&edge), "{edge:?} is never asked for");
     }
 }
 
@@ -64,7 +95,7 @@ fn questions() {
         for case in &batch.cases {
             assert_eq!(case.input.len(), 32);
             let index = number(&case.input, 4, 4) as usize;
-            check_limits(index, number(&case.input, 8, 8));
+            assert!(index <= NUMBERS);
             calls[number(&case.input, 0, 4) as usize] += 1;
             let is_sound = case.answer[0] == b'1';
             sound.entry(field(index)).or_default()[usize::from(is_sound)] += 1;

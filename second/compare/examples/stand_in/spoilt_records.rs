@@ -1,6 +1,7 @@
 //! What the program `spoilt_records` should answer to a record and its questions.
 
 use crate::input::Input;
+use compare::spoilt_records::field::held;
 use second::choice::Choice;
 use second::record::Record;
 
@@ -21,7 +22,7 @@ fn question(input: &mut Input, mut record: Record) -> String {
     let (call, index) = (input.number(4), input.number(4) as usize);
     let value = input.number(8);
     if index > 0 {
-        *record.numbers()[index - 1] = value;
+        *record.numbers()[index - 1] = held(index - 1, value);
     }
     let (number, time) = (input.number(8), input.number(8));
     let sound = u8::from(record.sound());

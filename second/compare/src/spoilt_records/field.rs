@@ -19,32 +19,33 @@ const HAD: Range<usize> = 37..38;
 const RUNS: Range<usize> = 38..54;
 const UNFINISHED: Range<usize> = 54..55;
 
-/// The place of the common period in the box.
+/// The places of the core count and the common period in the box.
+const CORES: usize = 0;
 const COMMON: usize = 2;
 
-/// A value as the product can hold it in a place of the record, counted from 0.
+/// What a place of the record, counted from 0, takes of a value: as many low bits as the product keeps there.
 pub fn held(place: usize, value: u64) -> u64 {
+    value & (u64::MAX >> (u64::BITS - bits(place)))
+}
+
+/// The bits that the product keeps of the number in a place.
+fn bits(place: usize) -> u32 {
     let Some(place) = place.checked_sub(BOX) else {
-        return if place == COMMON {
-            narrow(value)
+        return if [CORES, COMMON].contains(&place) {
+            32
         } else {
-            value
+            64
         };
     };
     let place = place % TASK;
-    if HAD.contains(&place) {
-        value % 2
-    } else if [WEIGHT, SHARES, COUNTS, PLACE]
-        .iter()
-        .any(|f| f.contains(&place))
-    {
-        narrow(value)
+    let of = |fields: &[Range<usize>]| fields.iter().any(|field| field.contains(&place));
+    if of(&[COST, PERIOD, WEIGHT, SHARES, COUNTS, PLACE]) {
+        32
+    } else if of(&[HAD, UNFINISHED]) {
+        16
+    } else if RUNS.step_by(2).any(|core| core == place) {
+        8 // A run's core stands before its deadline.
     } else {
-        value
+        64
     }
-}
-
-/// The nearest number of 32 bits.
-fn narrow(value: u64) -> u64 {
-    value.min(u64::from(u32::MAX))
 }

@@ -22,16 +22,16 @@ impl Spoilt {
         }
         let place = place(random, record.count as usize);
         let now = *record.clone().numbers()[place];
-        let value = held(place, values::spoilt(random, record, now));
+        let value = values::spoilt(random, record, now);
         let index = place + 1;
         Spoilt { index, value }
     }
 
-    /// The record with the number replaced.
+    /// The record with the number replaced by what its place takes of it.
     pub fn of(&self, record: &Record) -> Record {
         let mut record = record.clone();
         if let Some(place) = self.index.checked_sub(1) {
-            *record.numbers()[place] = self.value;
+            *record.numbers()[place] = held(place, self.value);
         }
         record
     }

@@ -4,7 +4,12 @@ use crate::random::Random;
 use second::limits::{CLOCK, COMMON, CORES, RUNS, TASKS};
 use second::record::Record;
 
-const HUGE: [u64; 6] = [
+/// The edges of the widths that numbers are kept in.
+const EDGES: [u64; 10] = [
+    (1 << 8) - 1,
+    1 << 8,
+    (1 << 16) - 1,
+    1 << 16,
     (1 << 32) - 1,
     1 << 32,
     (1 << 32) + 1,
@@ -13,7 +18,7 @@ const HUGE: [u64; 6] = [
     u64::MAX,
 ];
 
-/// 0, 1, one more or less, a limit or one beside it, huge, any.
+/// 0, 1, one more or less, a limit or one beside it, the edge of a width, any.
 pub fn spoilt(random: &mut Random, record: &Record, now: u64) -> u64 {
     match random.below(8) {
         0 => 0,
@@ -21,7 +26,7 @@ pub fn spoilt(random: &mut Random, record: &Record, now: u64) -> u64 {
         2 => now.wrapping_add(1),
         3 => now.wrapping_sub(1),
         4 | 5 => beside(random, record),
-        6 => random.pick(&HUGE),
+        6 => random.pick(&EDGES),
         _ => random.any_length(),
     }
 }

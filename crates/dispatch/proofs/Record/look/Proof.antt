@@ -14,10 +14,10 @@ use Rattle.dispatch.proofs.Record.look.Statement.{statement}
 use Rattle.dispatch.proofs.Record.look.Tie as tie
 
 abbrev Inv-loop : tie.InvT-loop
-Inv-loop core time self sound no' choice lines best₀ i₀ best i = (i ≤ tasksLimit) × (best ≡ bestOf self core i)
+Inv-loop core time self sound no' choice lines count best₀ i₀ best i = (i ≤ count) × (best ≡ bestOf self core i)
 
 abbrev μ-loop : tie.MeasureT-loop
-μ-loop core time self sound no' choice lines best₀ i₀ best i = tasksLimit - i
+μ-loop core time self sound no' choice lines count best₀ i₀ best i = count - i
 
 sound-requires : tie.Need-sound-requires Inv-loop μ-loop
 sound-requires c κs = search needs
@@ -50,19 +50,19 @@ unfolding bestOf
 loop-holds c = (omega arith, refl)
 
 mul-line : tie.Need-mul-line Inv-loop μ-loop
-mul-line c = omega arith
+mul-line c = omega (arith, known (passed (c .before)) .tasks)
 
 array-copy-out-line : tie.Need-array-copy-out-line Inv-loop μ-loop
-array-copy-out-line c = omega arith
+array-copy-out-line c = omega (arith, known (passed (c .before)) .tasks)
 
 mul-state : tie.Need-mul-state Inv-loop μ-loop
-mul-state c = omega arith
+mul-state c = omega (arith, known (passed (c .before .before)) .tasks)
 
 element-copy-out-state : tie.Need-element-copy-out-state Inv-loop μ-loop
-element-copy-out-state c = omega arith
+element-copy-out-state c = omega (arith, known (passed (c .before .before)) .tasks)
 
 add-i : tie.Need-add-i Inv-loop μ-loop
-add-i c = omega arith
+add-i c = omega (arith, known (passed (c .before .before .before)) .tasks)
 
 better-task-requires : tie.Need-better-task-requires Inv-loop μ-loop
 better-task-requires c κs =
@@ -82,8 +82,9 @@ loop-again c =
 -- the best of all tasks
 found : (c : tie.After-loop Inv-loop μ-loop) → let s = start (passed (c .before)) .args in c .before .loop .best ≡ bestOf (s .t1) (s .core) tasksLimit
 found c =
-    let e : c .before .loop .i ≡ tasksLimit = omega arith in
-    rw e at (c .before .loop .inv .1)
+    let k = passed (c .before) in
+    let e : c .before .loop .i ≡ start k .args .t1 .plan .count = omega arith in
+    (rw e at (c .before .loop .inv .1)) ∙ sym (known k .all)
 
 -- is one of them
 found-below : (c : tie.After-loop Inv-loop μ-loop) → c .before .loop .best .task ≤ tasksLimit

@@ -19,7 +19,7 @@ waiting : (c : tie.Else1) → let s = c .before .before .args in waits (s .state
 waiting c = sym (c .before .waits .ensures) ∙ not-false (c .before .waits .result) (c .if1 .left)
 
 key-requires : tie.Need-key-requires
-key-requires c κs = let s = c .before .before in (s .pre .0, s .pre .1, s .pre .2 (waiting c))
+key-requires c κs = c .before .before .pre
 
 -- is the best so far
 returns-2 : tie.Need-returns-2

@@ -7,19 +7,25 @@ use Rattle.spoilt_records.proofs.sum.runs_sum.Statement.{statement}
 use Rattle.spoilt_records.proofs.sum.runs_sum.Tie as tie
 
 abbrev Inv-loop : tie.InvT-loop
-Inv-loop h runs sum₀ k₀ sum k = (k ≤ runsLimit) × (sum < sumLimit)
+Inv-loop h cores deadlines sum₀ k₀ sum k = (k ≤ runsLimit) × (sum < sumLimit)
 
 abbrev μ-loop : tie.MeasureT-loop
-μ-loop h runs sum₀ k₀ sum k = runsLimit - k
+μ-loop h cores deadlines sum₀ k₀ sum k = runsLimit - k
 
 loop-holds : tie.Need-loop-holds Inv-loop μ-loop
 loop-holds c = search needs
 
-mul-run : tie.Need-mul-run Inv-loop μ-loop
-mul-run c = search needs
+array-read-core : tie.Need-array-read-core Inv-loop μ-loop
+array-read-core c = search needs
 
-array-copy-out-run : tie.Need-array-copy-out-run Inv-loop μ-loop
-array-copy-out-run c = search needs
+mul-deadline : tie.Need-mul-deadline Inv-loop μ-loop
+mul-deadline c = search needs
+
+array-copy-out-deadline : tie.Need-array-copy-out-deadline Inv-loop μ-loop
+array-copy-out-deadline c = search needs
+
+cast-sum-with : tie.Need-cast-sum-with Inv-loop μ-loop
+cast-sum-with c = search needs
 
 sum-with-requires : tie.Need-sum-with-requires Inv-loop μ-loop
 sum-with-requires c κs = search needs
@@ -46,8 +52,10 @@ runs-sum-spec =
     Inv-loop
     μ-loop
     loop-holds
-    mul-run
-    array-copy-out-run
+    array-read-core
+    mul-deadline
+    array-copy-out-deadline
+    cast-sum-with
     sum-with-requires
     sum-with-requires-2
     add-k

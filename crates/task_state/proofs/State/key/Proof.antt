@@ -13,8 +13,8 @@ use Rattle.task_state.specs.Key.{deadlineOf, keyOf}
 use Rattle.task_state.proofs.State.key.Statement.{statement}
 use Rattle.task_state.proofs.State.key.Tie as tie
 
-element-copy-out-run : tie.Need-element-copy-out-run
-element-copy-out-run c = search needs
+element-copy-out-deadline : tie.Need-element-copy-out-deadline
+element-copy-out-deadline c = search needs
 
 sub-at : tie.Need-sub-at
 sub-at c = search needs
@@ -81,7 +81,7 @@ pub key-spec : {M : Type 1} → statement M
 key-spec =
     tie.close
     (tie.spec
-    element-copy-out-run
+    element-copy-out-deadline
     sub-at
     mul-s
     array-copy-out-s

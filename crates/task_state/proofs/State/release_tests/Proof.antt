@@ -15,6 +15,9 @@ add-if1 c = search needs
 returns : tie.Need-returns
 returns c = rw (c .if1 .taken)
 
+cast-if2 : tie.Need-cast-if2
+cast-if2 c = search needs
+
 returns-2 : tie.Need-returns-2
 returns-2 c =
     let e = c .before .before in
@@ -28,4 +31,4 @@ returns-3 c =
     rw (e .if1 .left, ne-eqb live runsLimit (c .if2 .left))
 
 pub release-tests-spec : {M : Type 1} → statement M
-release-tests-spec = tie.close (tie.spec cast-if1 add-if1 returns returns-2 returns-3)
+release-tests-spec = tie.close (tie.spec cast-if1 add-if1 returns cast-if2 returns-2 returns-3)

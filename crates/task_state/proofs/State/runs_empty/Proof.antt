@@ -23,19 +23,25 @@ abbrev μ-loop : tie.MeasureT-loop
 loop-holds : tie.Need-loop-holds Inv-loop μ-loop
 loop-holds c = (omega arith, all-none _)
 
-mul-run : tie.Need-mul-run Inv-loop μ-loop
-mul-run c = omega arith
+element-copy-out-byte : tie.Need-element-copy-out-byte Inv-loop μ-loop
+element-copy-out-byte c = omega arith
 
-element-copy-out-run : tie.Need-element-copy-out-run Inv-loop μ-loop
-element-copy-out-run c = omega arith
+cast-core : tie.Need-cast-core Inv-loop μ-loop
+cast-core c = search needs
+
+mul-deadline : tie.Need-mul-deadline Inv-loop μ-loop
+mul-deadline c = omega arith
+
+element-copy-out-deadline : tie.Need-element-copy-out-deadline Inv-loop μ-loop
+element-copy-out-deadline c = omega arith
 
 empty-requires : tie.Need-empty-requires Inv-loop μ-loop
 empty-requires c κs = search needs
 
 returns : tie.Need-returns Inv-loop μ-loop
 returns c =
-    let st = c .before .before .before .before .before .args .t1 in
-    let at = c .before .before .before .before .loop in
+    let st = c .before .before .before .before .before .before .args .t1 in
+    let at = c .before .before .before .before .before .loop in
     sym (all-fails runsLimit (at .k) (λ j. runEmpty (runAt st j)) (omega arith) (sym (c .before .empty .ensures) ∙ not-true _ (c .if1 .taken)))
 
 add-k : tie.Need-add-k Inv-loop μ-loop
@@ -46,7 +52,7 @@ loop-less c = omega arith
 
 loop-again : tie.Need-loop-again Inv-loop μ-loop
 loop-again c =
-    let at = c .before .before .before .before .loop in
+    let at = c .before .before .before .before .before .loop in
     (omega arith, all-more _ _ (at .inv .1) (sym (c .before .empty .ensures) ∙ not-false _ (c .if1 .left)))
 
 returns-2 : tie.Need-returns-2 Inv-loop μ-loop
@@ -59,8 +65,10 @@ runs-empty-spec =
     Inv-loop
     μ-loop
     loop-holds
-    mul-run
-    element-copy-out-run
+    element-copy-out-byte
+    cast-core
+    mul-deadline
+    element-copy-out-deadline
     empty-requires
     returns
     add-k

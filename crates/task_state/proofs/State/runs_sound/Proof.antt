@@ -20,23 +20,23 @@ use Rattle.task_state.proofs.State.runs_sound.Tie as tie
 
 -- the runs so far keep their rules
 abbrev Inv-loop : tie.InvT-loop
-Inv-loop self shares latest k₀ k = (k ≤ runsLimit) × (allBelow k (λ j. ruleBy shares latest self j) ≡ true)
+Inv-loop self live shares latest k₀ k = (k ≤ runsLimit) × (allBelow k (λ j. ruleBy shares latest self j) ≡ true)
 
 abbrev μ-loop : tie.MeasureT-loop
-μ-loop self shares latest k₀ k = runsLimit - k
+μ-loop self live shares latest k₀ k = runsLimit - k
 
 -- where a run is read: its line, its state and its place
 abbrev Here : Type 0
-Here = tie.After-run Inv-loop μ-loop
+Here = tie.After-deadline Inv-loop μ-loop
 
 abbrev lineOf : Here → Line
-lineOf c = c .before .before .before .before .before .before .args .line
+lineOf c = c .before .before .before .before .before .before .before .args .line
 
 abbrev stateOf : Here → State
-stateOf c = c .before .before .before .before .before .before .args .t1
+stateOf c = c .before .before .before .before .before .before .before .args .t1
 
 abbrev at : Here → ℕ
-at c = c .before .before .loop .k
+at c = c .before .before .before .loop .k
 
 abbrev runOf : Here → Run
 runOf c = runAt (stateOf c) (at c)
@@ -56,6 +56,9 @@ on-core c = sym (c .before .placed .ensures) ∙ not-false _ (c .if3 .left)
 core-in : (c : tie.Else3 Inv-loop μ-loop) → let k = runOf (c .before .before .before) .core in (0 < k) × (k ≤ coresLimit)
 core-in c = placed-in (runOf (c .before .before .before)) (on-core c)
 
+cast-live : tie.Need-cast-live Inv-loop μ-loop
+cast-live c = search needs
+
 returns : tie.Need-returns Inv-loop μ-loop
 returns c = rw (lt-leb _ _ (c .if1 .taken))
 
@@ -68,11 +71,17 @@ add-latest c = omega arith
 loop-holds : tie.Need-loop-holds Inv-loop μ-loop
 loop-holds c = (omega arith, all-none _)
 
-mul-run : tie.Need-mul-run Inv-loop μ-loop
-mul-run c = omega arith
+element-copy-out-byte : tie.Need-element-copy-out-byte Inv-loop μ-loop
+element-copy-out-byte c = omega arith
 
-element-copy-out-run : tie.Need-element-copy-out-run Inv-loop μ-loop
-element-copy-out-run c = omega arith
+cast-core : tie.Need-cast-core Inv-loop μ-loop
+cast-core c = search needs
+
+mul-deadline : tie.Need-mul-deadline Inv-loop μ-loop
+mul-deadline c = omega arith
+
+element-copy-out-deadline : tie.Need-element-copy-out-deadline Inv-loop μ-loop
+element-copy-out-deadline c = omega arith
 
 placed-requires : tie.Need-placed-requires Inv-loop μ-loop
 placed-requires c κs = search needs
@@ -124,7 +133,7 @@ loop-again c =
     (t .6 .left))
     (λ t. past (lineOf r) (stateOf r) (at r) (t .0 .left) ∙ sym (t .1 .ensures) ∙ not-false _ (t .2 .left))
     (c .if2 .came) in
-    (omega arith, all-more _ _ (r .before .before .loop .inv .1) keeps)
+    (omega arith, all-more _ _ (r .before .before .before .loop .inv .1) keeps)
 
 returns-5 : tie.Need-returns-5 Inv-loop μ-loop
 returns-5 c =
@@ -138,12 +147,15 @@ runs-sound-spec =
     (tie.spec
     Inv-loop
     μ-loop
+    cast-live
     returns
     cast-latest
     add-latest
     loop-holds
-    mul-run
-    element-copy-out-run
+    element-copy-out-byte
+    cast-core
+    mul-deadline
+    element-copy-out-deadline
     placed-requires
     returns-2
     sub-at

@@ -1,8 +1,26 @@
 -- `task_state::State::with_run` meets its contract.
+use Prim.Native.Nat.{_≤_}
+use mathlib.Core.Path.{_≡_, ap}
+use native.Mathlib.Omega.{arith}
 use borrow.Author.Needs.{needs}
-use Rattle.task_state.specs.Runs.{withRun, takenRun}
+use lib.ListN.{length}
+use Rattle.units.specs.Limits.{coresLimit}
+use Rattle.units.proofs.Units.{field-long}
+use Rattle.planning.specs.Plan.{rowOf}
+use Rattle.turn.specs.declared.Turn.{Turn}
+use Rattle.turn.proofs.Keeps.{turn-keeps}
+use Rattle.task_state.specs.Runs.{turnAt, withRun, takenRun}
 use Rattle.task_state.proofs.State.with_run.Statement.{statement}
 use Rattle.task_state.proofs.State.with_run.Tie as tie
+
+-- the turn's core is at most 16
+core-in : (s : tie.Start) → turnAt (s .args .line) (s .args .self) .core ≤ coresLimit
+core-in s =
+    let ln = s .args .line in
+    let st = s .args .self in
+    let wide : length (rowOf ln) ≡ coresLimit = search (needs, field-long) in
+    let long : length (st .counts) ≡ coresLimit = search needs in
+    turn-keeps (ln .weight .0) (st .place) (rowOf ln) (st .counts) (s .pre .turn) wide long .to
 
 turn-of-requires : tie.Need-turn-of-requires
 turn-of-requires c κs = search needs
@@ -13,19 +31,41 @@ cast-due c = search needs
 add-due : tie.Need-add-due
 add-due c = search needs
 
-mul-run : tie.Need-mul-run
-mul-run c = search needs
+cast-at : tie.Need-cast-at
+cast-at c = search needs
 
-element-set-from-run : tie.Need-element-set-from-run
-element-set-from-run c = search needs
+mul-deadline : tie.Need-mul-deadline
+mul-deadline c = search needs
+
+element-set-from-deadline : tie.Need-element-set-from-deadline
+element-set-from-deadline c = search needs
+
+cast-state : tie.Need-cast-state
+cast-state c =
+    let t = c .before .before .before .before in
+    omega (arith, ap (λ (r : Turn). r .core) (t .turn-of .ensures), core-in (t .before .before .before))
+
+element-write-state : tie.Need-element-write-state
+element-write-state c = search needs
 
 add-state : tie.Need-add-state
 add-state c = search needs
 
 returns : tie.Need-returns
 unfolding withRun takenRun
-returns c = rw (c .before .before .before .turn-of .ensures)
+returns c = rw (c .before .before .before .before .before .turn-of .ensures)
 
 pub with-run-spec : {M : Type 1} → statement M
 with-run-spec =
-    tie.close (tie.spec turn-of-requires cast-due add-due mul-run element-set-from-run add-state returns)
+    tie.close
+    (tie.spec
+    turn-of-requires
+    cast-due
+    add-due
+    cast-at
+    mul-deadline
+    element-set-from-deadline
+    cast-state
+    element-write-state
+    add-state
+    returns)

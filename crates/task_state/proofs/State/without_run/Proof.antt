@@ -3,31 +3,53 @@ use mathlib.Core.Path.{_≡_}
 use borrow.Author.Needs.{needs}
 use lib.ListN.{length}
 use Rattle.units.specs.Limits.{runsLimit}
+use Rattle.units.specs.Units.{ticks}
 use Rattle.task_state.specs.Runs.{withoutRun}
-use Rattle.task_state.proofs.Oldest.{runs-long, moved-up}
+use Rattle.task_state.proofs.Oldest.{deadlines-long, moved-up}
 use Rattle.task_state.proofs.State.without_run.Statement.{statement}
 use Rattle.task_state.proofs.State.without_run.Tie as tie
 
-element-copy-out-r1 : tie.Need-element-copy-out-r1
-element-copy-out-r1 c = search needs
+element-copy-out-d1 : tie.Need-element-copy-out-d1
+element-copy-out-d1 c = search needs
 
-element-copy-out-r2 : tie.Need-element-copy-out-r2
-element-copy-out-r2 c = search needs
+element-copy-out-d2 : tie.Need-element-copy-out-d2
+element-copy-out-d2 c = search needs
 
-element-copy-out-r3 : tie.Need-element-copy-out-r3
-element-copy-out-r3 c = search needs
+element-copy-out-d3 : tie.Need-element-copy-out-d3
+element-copy-out-d3 c = search needs
 
-element-copy-out-r4 : tie.Need-element-copy-out-r4
-element-copy-out-r4 c = search needs
+element-copy-out-d4 : tie.Need-element-copy-out-d4
+element-copy-out-d4 c = search needs
 
-element-copy-out-r5 : tie.Need-element-copy-out-r5
-element-copy-out-r5 c = search needs
+element-copy-out-d5 : tie.Need-element-copy-out-d5
+element-copy-out-d5 c = search needs
 
-element-copy-out-r6 : tie.Need-element-copy-out-r6
-element-copy-out-r6 c = search needs
+element-copy-out-d6 : tie.Need-element-copy-out-d6
+element-copy-out-d6 c = search needs
 
-element-copy-out-r7 : tie.Need-element-copy-out-r7
-element-copy-out-r7 c = search needs
+element-copy-out-d7 : tie.Need-element-copy-out-d7
+element-copy-out-d7 c = search needs
+
+element-copy-out-c1 : tie.Need-element-copy-out-c1
+element-copy-out-c1 c = search needs
+
+element-copy-out-c2 : tie.Need-element-copy-out-c2
+element-copy-out-c2 c = search needs
+
+element-copy-out-c3 : tie.Need-element-copy-out-c3
+element-copy-out-c3 c = search needs
+
+element-copy-out-c4 : tie.Need-element-copy-out-c4
+element-copy-out-c4 c = search needs
+
+element-copy-out-c5 : tie.Need-element-copy-out-c5
+element-copy-out-c5 c = search needs
+
+element-copy-out-c6 : tie.Need-element-copy-out-c6
+element-copy-out-c6 c = search needs
+
+element-copy-out-c7 : tie.Need-element-copy-out-c7
+element-copy-out-c7 c = search needs
 
 sub-state : tie.Need-sub-state
 sub-state c = search needs
@@ -35,20 +57,28 @@ sub-state c = search needs
 returns : tie.Need-returns
 unfolding withoutRun
 returns c =
-    let rs = c .before .before .before .before .before .before .before .args .t1 .runs in
-    let l : length rs ≡ runsLimit = search (needs, runs-long) in
-    rw (moved-up rs l)
+    let st = c .before .before .before .before .before .before .before .before .before .before .before .before .before .before .args .t1 in
+    let due : length (st .deadlines) ≡ runsLimit = search (needs, deadlines-long) in
+    let on : length (st .cores) ≡ runsLimit = search needs in
+    rw (moved-up (ticks 0) (st .deadlines) due, moved-up 0 (st .cores) on)
 
 pub without-run-spec : {M : Type 1} → statement M
 without-run-spec =
     tie.close
     (tie.spec
-    element-copy-out-r1
-    element-copy-out-r2
-    element-copy-out-r3
-    element-copy-out-r4
-    element-copy-out-r5
-    element-copy-out-r6
-    element-copy-out-r7
+    element-copy-out-d1
+    element-copy-out-d2
+    element-copy-out-d3
+    element-copy-out-d4
+    element-copy-out-d5
+    element-copy-out-d6
+    element-copy-out-d7
+    element-copy-out-c1
+    element-copy-out-c2
+    element-copy-out-c3
+    element-copy-out-c4
+    element-copy-out-c5
+    element-copy-out-c6
+    element-copy-out-c7
     sub-state
     returns)
