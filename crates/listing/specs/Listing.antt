@@ -44,6 +44,10 @@ unfoldable pub tasksText : List Line → List ℤ → ℕ → List ℕ
 tasksText ls lates zero = []
 tasksText ls lates (suc n) = tasksText ls lates n ++ taskText (suc n) (getD ls n noLine) (getD lates n (pos 0))
 
--- the whole listing: `cores 4 common 6`, then a line for each task
+-- the first line: `cores 4 common 6`
+abbrev pub firstText : ℕ → ℕ → List ℕ
+firstText m l = field "cores " m ++ field " common " l ++ lineEnd
+
+-- the whole listing: the first line, then a line for each task
 unfoldable pub listingText : Plan → List ℕ
-listingText pl = field "cores " (pl .cores) ++ field " common " (pl .common) ++ lineEnd ++ tasksText (pl .lines) (latesOf pl) (pl .count)
+listingText pl = firstText (pl .cores) (pl .common) ++ tasksText (pl .lines) (latesOf pl) (pl .count)

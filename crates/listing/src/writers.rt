@@ -13,14 +13,14 @@ use writing::put_field;
 use writing::put_signed;
 use writing::put_text;
 ghost use mathlib.Core.Path.{_≡_};
-ghost use Prim.Native.Nat.{_+_, _*_, _≤_};
+ghost use Prim.Native.Nat.{_+_, _≤_};
 ghost use Rattle.units.specs.Limits.{tasksLimit};
 ghost use Rattle.units.specs.Units.{nums};
 ghost use Rattle.lists.specs.Lists.{parts as partsOf};
 ghost use Rattle.writing.specs.Inner.{placeLimit};
 ghost use Rattle.writing.specs.Wrote.{Wrote};
 ghost use Rattle.lateness.specs.Lateness.{latesOf};
-ghost use Rattle.listing.specs.Listing.{shareText, sharesText, headText, rowText, lateText, taskText, tasksText, listingText};
+ghost use Rattle.listing.specs.Listing.{shareText, sharesText, headText, rowText, lateText, taskText, firstText, listingText};
 
 // A core's share, if it is positive.
 fn put_share(buf: &mut [u8], at: usize, core: usize, share: Share) -> usize
@@ -106,13 +106,23 @@ fn put_task(buf: &mut [u8], at: usize, i: usize, line: Line, late: i64) -> usize
     put_late(buf, b, late)
 }
 
-// The tasks' lines, with their bounds.
-fn put_tasks(buf: &mut [u8], at: usize, plan: Plan, lates: [i64; TASKS]) -> usize
-    requires { ⌜ (at ≤ 1000) × (plan .count ≤ tasksLimit) ⌝ }
-    ensures { λ r. ⌜ Wrote (now (buf .entry)) at (tasksText (plan .lines) lates (plan .count)) (now (buf .exit)) r ⌝ }
-    ensures { λ r. ⌜ r ≤ at + 1000 * tasksLimit ⌝ }
+// The first line: the cores and the common period.
+fn put_first(buf: &mut [u8], cores: u32, common: u32) -> usize
+    ensures { λ r. ⌜ Wrote (now (buf .entry)) 0 (firstText cores common) (now (buf .exit)) r ⌝ }
+    ensures { λ r. ⌜ r ≤ 1000 ⌝ }
 {
-    let mut next = at;
+    let a = put_field(buf, 0, b"cores ", cores as u64);
+    let b = put_field(buf, a, b" common ", common as u64);
+    put_byte(buf, b, NEWLINE)
+}
+
+// The whole listing, with the bounds of its tasks. The loop is here: a plan that is handed on is copied.
+pub(crate) fn put_plan(buf: &mut [u8], plan: Plan, lates: [i64; TASKS]) -> usize
+    requires { ⌜ (plan .count ≤ tasksLimit) × (lates ≡ latesOf plan) ⌝ }
+    ensures { λ r. ⌜ Wrote (now (buf .entry)) 0 (listingText plan) (now (buf .exit)) r ⌝ }
+    ensures { λ r. ⌜ r ≤ 100000 ⌝ }
+{
+    let mut next = put_first(buf, plan.cores, plan.common);
     let mut i: usize = 0;
     while i < plan.count {
         let line = plan.lines[i];
@@ -121,16 +131,4 @@ fn put_tasks(buf: &mut [u8], at: usize, plan: Plan, lates: [i64; TASKS]) -> usiz
         i += 1;
     }
     next
-}
-
-// The whole listing, with the bounds of its tasks.
-pub(crate) fn put_plan(buf: &mut [u8], plan: Plan, lates: [i64; TASKS]) -> usize
-    requires { ⌜ (plan .count ≤ tasksLimit) × (lates ≡ latesOf plan) ⌝ }
-    ensures { λ r. ⌜ Wrote (now (buf .entry)) 0 (listingText plan) (now (buf .exit)) r ⌝ }
-    ensures { λ r. ⌜ r ≤ 100000 ⌝ }
-{
-    let a = put_field(buf, 0, b"cores ", plan.cores as u64);
-    let b = put_field(buf, a, b" common ", plan.common as u64);
-    let c = put_byte(buf, b, NEWLINE);
-    put_tasks(buf, c, plan, lates)
 }
