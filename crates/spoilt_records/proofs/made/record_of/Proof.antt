@@ -59,14 +59,17 @@ loop-again c = search needs
 number64-requires : tie.Need-number64-requires Inv-loop μ-loop
 number64-requires c κs = search needs
 
+low-half-requires : tie.Need-low-half-requires Inv-loop μ-loop
+low-half-requires c κs = search needs
+
 number64-requires-2 : tie.Need-number64-requires-2 Inv-loop μ-loop
 number64-requires-2 c κs = search needs
 
 number64-requires-3 : tie.Need-number64-requires-3 Inv-loop μ-loop
 number64-requires-3 c κs = search needs
 
-low-half-requires : tie.Need-low-half-requires Inv-loop μ-loop
-low-half-requires c κs = search needs
+low-half-requires-2 : tie.Need-low-half-requires-2 Inv-loop μ-loop
+low-half-requires-2 c κs = search needs
 
 number64-requires-4 : tie.Need-number64-requires-4 Inv-loop μ-loop
 number64-requires-4 c κs = search needs
@@ -96,8 +99,9 @@ record-of-spec =
     loop-less
     loop-again
     number64-requires
+    low-half-requires
     number64-requires-2
     number64-requires-3
-    low-half-requires
+    low-half-requires-2
     number64-requires-4
     returns)
