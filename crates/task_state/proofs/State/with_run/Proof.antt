@@ -1,13 +1,12 @@
 -- `task_state::State::with_run` meets its contract.
 use Prim.Native.Nat.{_≤_}
-use mathlib.Core.Path.{_≡_, ap}
+use mathlib.Core.Path.{_≡_}
 use native.Mathlib.Omega.{arith}
 use borrow.Author.Needs.{needs}
 use lib.ListN.{length}
 use Rattle.units.specs.Limits.{coresLimit}
 use Rattle.units.proofs.Units.{field-long}
 use Rattle.planning.specs.Plan.{rowOf}
-use Rattle.turn.specs.declared.Turn.{Turn}
 use Rattle.turn.proofs.Keeps.{turn-keeps}
 use Rattle.task_state.specs.Runs.{turnAt, withRun, takenRun}
 use Rattle.task_state.proofs.State.with_run.Statement.{statement}
@@ -43,7 +42,8 @@ element-set-from-deadline c = search needs
 cast-state : tie.Need-cast-state
 cast-state c =
     let t = c .before .before .before .before in
-    omega (arith, ap (λ (r : Turn). r .core) (t .turn-of .ensures), core-in (t .before .before .before))
+    let small : t .turn-of .result .core ≤ coresLimit = rw (t .turn-of .ensures) (core-in (t .before .before .before)) in
+    omega (arith, small)
 
 element-write-state : tie.Need-element-write-state
 element-write-state c = search needs
