@@ -25,11 +25,11 @@ use Rattle.soundness.proofs.Added.{fixed-more, mover-more}
 abbrev pub shareAt : List Share → ℕ → ℕ
 shareAt row q = getD row q (share 0) .0
 
--- shares at every core
+-- an array of shares, of which those below p are done
 abbrev Shares : (ℕ → Share) → List Share → ℕ → List Share → Type 0
 Shares f old p now = Stored (share 0) coresLimit f old 0 p now
 
--- an array of shares: the next one is stored, by what stood there
+-- the next one is stored, by what stood there
 next-share : (f : ℕ → ℕ) (g : ℕ → ℕ → ℕ) (old now : List Share) (p : ℕ) (v : Share)
     → Shares (λ q. share (g (getD old q (share 0) .0) (f q))) old p now → p < coresLimit → v .0 ≡ g (getD now p (share 0) .0) (f p)
     → Shares (λ q. share (g (getD old q (share 0) .0) (f q))) old (p + 1) (set now p v)

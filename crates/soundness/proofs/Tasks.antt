@@ -45,7 +45,7 @@ parted g l t d e =
 pub task-ok : (pl : Plan) (i : ℕ) → i < pl .count → lineOk pl i ≡ lineSound (pl .common) (getD (pl .lines) i noLine)
 task-ok pl i h = rw (lt-ltb i (pl .count) h)
 
-pub past-ok : (pl : Plan) (i : ℕ) → pl .count ≤ i → lineOk pl i ≡ lineEmpty (getD (pl .lines) i noLine)
+past-ok : (pl : Plan) (i : ℕ) → pl .count ≤ i → lineOk pl i ≡ lineEmpty (getD (pl .lines) i noLine)
 past-ok pl i h = rw (le-ltb i (pl .count) h)
 
 -- the periods of the tasks
