@@ -13,8 +13,7 @@ use Rattle.units.specs.Units.{share}
 use Rattle.units.proofs.Units.{nums-at}
 use Rattle.lists.specs.Lists.{parts}
 use Rattle.lists.proofs.Tests.{by-cases}
-use Rattle.lists.proofs.Lists.{parts-le}
-use Rattle.lists.proofs.Parts.{first-has}
+use Rattle.lists.proofs.Parts.{first-some}
 use Rattle.lists.proofs.Filled.{Stored, store-next, store-skip}
 use Rattle.assignment.specs.Movers.{movesOn, firstCore, lower}
 use Rattle.assignment.proofs.Properties.{share-core}
@@ -42,10 +41,7 @@ module _ (f : ℕ → Bool) (g : ℕ → Mover) (old : List Mover) (p : ℕ) (ne
 pub as-mover : (ln : Line) (p f : ℕ) → f ≡ firstCore (rowOf ln) → mover (getD (ln .shares) p (share 0)) ln f ≡ moverOn p ln
 as-mover ln p f e = ap₂ (λ (s q : ℕ). mover (share s) ln q) (sym (nums-at (ln .shares) p)) e
 
--- the first core of a line that moves is a core, and there it has a share
-pub first-some : (row : List ℕ) → 1 < parts row → 0 < getD row (firstCore row) 0
-first-some row h = first-has row (omega (arith, parts-le row))
-
+-- the first core of a line that moves is a core
 pub first-there : (pl : Plan) → PlanKept pl → (i : ℕ) →
     let row = rowOf (getD (pl .lines) i noLine) in
     1 < parts row → firstCore row < coresLimit

@@ -7,7 +7,7 @@ use lib.Dec.{ltb, eqb·suc-zero}
 use lib.ListN.{getD, take, drop}
 use borrow.Author.Tests.{lt-ltb}
 use Rattle.lists.specs.Lists.{total, parts, firstPart, bit}
-use Rattle.lists.proofs.Lists.{parts-cons, parts-none, sum-take-suc, sum-ends}
+use Rattle.lists.proofs.Lists.{parts-cons, parts-le, parts-none, sum-take-suc, sum-ends}
 
 -- those before, at and after a place
 pub parts-split : (r : List ℕ) (p : ℕ) → parts r ≡ parts (take p r) + (bit (ltb 0 (getD r p 0)) + parts (drop (suc p) r))
@@ -41,6 +41,10 @@ pub first-has : (r : List ℕ) → 0 < total r → 0 < getD r (firstPart r) 0
 first-has [] h = h
 first-has (zero ∷ r) h = first-has r (omega arith)
 first-has (suc x ∷ r) h = rw (eqb·suc-zero x) (omega arith)
+
+-- and so it is of two or more
+pub first-some : (r : List ℕ) → 1 < parts r → 0 < getD r (firstPart r) 0
+first-some r h = first-has r (omega (arith, parts-le r))
 
 -- one with none below it is the first
 pub first-is : (r : List ℕ) (p : ℕ) → 0 < getD r p 0 → total (take p r) ≡ 0 → firstPart r ≡ p

@@ -10,7 +10,7 @@ use borrow.Author.Tests.{ltb-true, ltb-false, lt-ltb, le-ltb, eqb-true}
 use Rattle.lists.specs.Lists.{total, parts, bit, val}
 use Rattle.lists.proofs.Tests.{by-cases}
 use Rattle.lists.proofs.Lists.{getD-le-sum, parts-le}
-use Rattle.lists.proofs.Parts.{parts-split, parts-one, first-has}
+use Rattle.lists.proofs.Parts.{parts-split, parts-one, first-some}
 use Rattle.assignment.specs.Movers.{has, moves, firstCore, fixedOn, movesOn, lower}
 use Rattle.assignment.proofs.Stands.{moves-stands, lower-stands, fixed-stands}
 use Rattle.soundness.specs.declared.sums.Sums.{Sums}
@@ -28,22 +28,22 @@ fixed-adds p row e =
 
 module _ (row : List ℕ) (e : moves row ≡ true) where
   -- a mover has a share on its first core
-  first-some : 0 < getD row (firstCore row) 0
-  first-some = first-has row (omega (arith, ltb-true 1 (parts row) e, parts-le row))
+  share-there : 0 < getD row (firstCore row) 0
+  share-there = first-some row (ltb-true 1 (parts row) e)
 
   -- which is one of the row's
   pub first-there : firstCore row < length row
   first-there =
       by-cases (ltb (firstCore row) (length row))
       (λ t. ltb-true (firstCore row) (length row) t)
-      (λ t. absurd (omega (arith, first-some, List·getD-eq-default row 0 {n = firstCore row} (ltb-false (firstCore row) (length row) t))))
+      (λ t. absurd (omega (arith, share-there, List·getD-eq-default row 0 {n = firstCore row} (ltb-false (firstCore row) (length row) t))))
 
   -- it is counted where it has a share, and once as first
   mover-adds : (p : ℕ) → (fixedOn p row ≡ false) × (movesOn p row ≡ has p row) × (lower p row ≡ eqb (firstCore row) p)
   mover-adds p =
       rw (lower-stands p row, moves-stands p row, fixed-stands p row, e)
       (by-cases (eqb (firstCore row) p)
-      (λ t. rw (t, lt-ltb 0 (getD row p 0) (rw (eqb-true (firstCore row) p t) at first-some)) (refl, refl, refl))
+      (λ t. rw (t, lt-ltb 0 (getD row p 0) (rw (eqb-true (firstCore row) p t) at share-there)) (refl, refl, refl))
       (λ t. rw t (by-cases (has p row) (λ h. rw h (refl, refl, refl)) (λ h. rw h (refl, refl, refl)))))
 
 -- the core with a fixed task more

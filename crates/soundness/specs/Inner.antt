@@ -13,19 +13,23 @@ use Rattle.arith.specs.Divisor.{gcd}
 use Rattle.assignment.specs.Movers.{fixedOn, movesOn, lower}
 use Rattle.soundness.specs.declared.sums.Sums.{Sums}
 
--- the five numbers of core p
+-- of core p: its load
 abbrev pub loadAt : Sums → ℕ → ℕ
 loadAt s p = getD (s .loads) p (share 0) .0
 
+-- the weight of its heaviest fixed task
 abbrev pub fixedAt : Sums → ℕ → ℕ
 fixedAt s p = getD (s .fixed) p (share 0) .0
 
+-- its movers
 abbrev pub moversAt : Sums → ℕ → ℕ
 moversAt s p = getD (s .movers) p 0
 
+-- those whose first core it is
 abbrev pub firstsAt : Sums → ℕ → ℕ
 firstsAt s p = getD (s .firsts) p 0
 
+-- the weight of the heaviest of them
 abbrev pub heaviestAt : Sums → ℕ → ℕ
 heaviestAt s p = getD (s .heaviest) p (share 0) .0
 
