@@ -1,9 +1,11 @@
 -- Sound records in document 01's words: what makes one, that 15 is given for every other, and that calls from an accepted list reach no other.
 use Prim.Native.Nat.{ℕ}
-use mathlib.Core.Path.{_≡_, _∙_}
+use mathlib.Core.Path.{_≡_, sym, ap, _∙_}
 use mathlib.Core.Logic.{_↔_}
 use mathlib.Core.Bool.{true, false}
 use mathlib.Core.List.{List, []}
+use native.Mathlib.Omega.{arith}
+use Rattle.lists.specs.Lists.{bit}
 use Rattle.lists.proofs.Tests.{by-cases}
 use Rattle.dispatch.specs.declared.Record.{Record}
 use Rattle.dispatch.specs.declared.call.Call.{Call}
@@ -25,7 +27,14 @@ use Rattle.demands.proofs.SoundClauses.{clauses, from-clauses}
 pub sound-exactly : (r : Record) → Shaped r → (soundOf r ≡ true) ↔ Sound r
 sound-exactly r long = (λ e. clauses r long (held r e), λ x. sound r (from-clauses r long x))
 
--- one that does not pass is refused by 15, whatever the call
+-- and fails it exactly if not all of them hold
+pub unsound-exactly : (r : Record) → Shaped r → (soundOf r ≡ false) ↔ (Sound r → ⊥)
+unsound-exactly r long = (
+  λ e x. omega (arith, ap bit (sym e ∙ sound-exactly r long .1 x)),
+  λ n. by-cases (soundOf r) (λ e. absurd (n (sound-exactly r long .0 e))) (λ e. e),
+)
+
+-- then 15 is given, whatever the call
 refused : (r : Record) (c : Call) → soundOf r ≡ false → callRefusal r c ≡ 15
 unfolding taskTests releaseRefusal finishRefusal lookRefusal
 refused r (Release i t) e = release-no r i t ∙ rw e
@@ -36,7 +45,7 @@ refused r (Look k t) e = look-no r k t ∙ rw e
 pub given-15 : (r : Record) → Shaped r → (c : Call) → (callRefusal r c ≡ 15) ↔ (Sound r → ⊥)
 given-15 r long c = (
   λ e x. never-15 r [] c (record { shaped = long; sound = sound-exactly r long .1 x }) e,
-  λ n. by-cases (soundOf r) (λ e. absurd (n (sound-exactly r long .0 e))) (λ e. refused r c e),
+  λ n. refused r c (unsound-exactly r long .1 n),
 )
 
 module _ (m : ℕ) (xs : List ℕ) (ok : freshOf m xs .refusal .no ≡ 0) (cs : List Call) where
