@@ -2,3 +2,9 @@ pub mod Examples
 pub mod Demand2
 pub mod Demand1
 pub mod Demand3
+pub mod SoundCommon
+pub mod SoundPlan
+pub mod PlanSound
+pub mod SoundState
+pub mod SoundClauses
+pub mod Sound
