@@ -47,17 +47,17 @@ value-grows : {s : List ℕ} (v : ℕ) → Digits s → v ≤ valueFrom v s
 value-grows v end = omega arith
 value-grows v (digit d s h t) = omega (arith, value-grows (v * 10 + (48 + d - 48)) t)
 
-module _ (b : ℕ) (rest : List ℕ) (stop : NoDigit (getD rest 0 0)) where
-  -- no digit ends a number
-  digits-stop : (r : List ℕ) (v at : ℕ) → NoDigit (getD r 0 0) → digitsOf b r v at ≡ Value v at
-  unfolding digitsOf
-  digits-stop [] v at h = refl
-  digits-stop (x ∷ r) v at h = rw (digit-none x h)
+-- a byte that is no digit ends a number
+digits-stop : (b : ℕ) (r : List ℕ) (v at : ℕ) → NoDigit (getD r 0 0) → digitsOf b r v at ≡ Value v at
+unfolding digitsOf
+digits-stop b [] v at h = refl
+digits-stop b (x ∷ r) v at h = rw (digit-none x h)
 
+module _ (b : ℕ) (rest : List ℕ) (stop : NoDigit (getD rest 0 0)) where
   -- digits, read to their end
   digits-written : {s : List ℕ} (v at : ℕ) → Digits s → valueFrom v s < b → digitsOf b (s ++ rest) v at ≡ Value (valueFrom v s) (at + length s)
   unfolding digitsOf
-  digits-written v at end h = digits-stop rest v at stop ∙ ap (Value v) (omega arith)
+  digits-written v at end h = digits-stop b rest v at stop ∙ ap (Value v) (omega arith)
   digits-written v at (digit d s g t) h =
       let e : 48 + d - 48 ≡ d = omega arith in
       let k : v * 10 + d < b = omega (arith, value-grows (v * 10 + (48 + d - 48)) t) in
