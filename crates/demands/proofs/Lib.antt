@@ -8,3 +8,6 @@ pub mod PlanSound
 pub mod SoundState
 pub mod SoundClauses
 pub mod Sound
+pub mod Sixteen
+pub mod TextForms
+pub mod Text

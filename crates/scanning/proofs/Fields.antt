@@ -39,7 +39,7 @@ module _ (b : ℕ) (s : List ℕ) (e at : ℕ) where
 abbrev Kept : ℕ → ℕ → ℕ → ℕ → ℕ → Type 0
 Kept b k at v a = (v < b) × (at + k ≤ a)
 
-no-value : {A : Type 0} {v a : ℕ} → NoNumber ≡ Value v a → A
+pub no-value : {A : Type 0} {v a : ℕ} → NoNumber ≡ Value v a → A
 no-value e = let z : _≡_ {A = ℕ} 0 1 = cc in absurd (omega arith)
 
 -- the digits after a number's first
@@ -54,7 +54,7 @@ digits-kept b (x ∷ l) v at w a p e =
     (λ h. let f = rw h at e in let y : v ≡ w = cc in let z : at ≡ a = cc in (omega arith, omega arith))
 
 -- a number has one digit at least
-first-kept : (b : ℕ) (l : List ℕ) (at v a : ℕ) → 10 ≤ b → firstOf b l at ≡ Value v a → Kept b 1 at v a
+pub first-kept : (b : ℕ) (l : List ℕ) (at v a : ℕ) → 10 ≤ b → firstOf b l at ≡ Value v a → Kept b 1 at v a
 unfolding firstOf
 first-kept b [] at v a p e = no-value e
 first-kept b (x ∷ l) at v a p e =
@@ -84,7 +84,7 @@ field-kept b s x at v a h e = followed-kept b s x (numberAt b s at) at v a (λ w
 abbrev KeptPair : ℕ → ℕ → ℕ → ℕ → ℕ → Type 0
 KeptPair b at x y a = (x < b) × (y < b) × (at + 4 ≤ a)
 
-no-pair : {A : Type 0} {x y a : ℕ} → NoPair ≡ Two x y a → A
+pub no-pair : {A : Type 0} {x y a : ℕ} → NoPair ≡ Two x y a → A
 no-pair e = let z : _≡_ {A = ℕ} 0 1 = cc in absurd (omega arith)
 
 second-kept : (b u : ℕ) (n : Number) (at p x y a : ℕ) → Kept b 2 at u p → ((w q : ℕ) → n ≡ Value w q → Kept b 2 p w q) → secondAfter u n ≡ Two x y a

@@ -4,3 +4,6 @@ pub mod Says
 pub mod Count
 pub mod Examples
 pub mod Answered
+pub mod Written
+pub mod ByForm
+pub mod EveryText
