@@ -1,10 +1,10 @@
 -- The program's text, document 01, "Listing and text": what a text says, or the line that is named, and refusal 16 with that line.
 use Prim.Native.Nat.{ℕ, _+_, _*_, _%_, _≤_, _<_}
-use mathlib.Core.Path.{_≡_, sym, ap, _∙_}
+use mathlib.Core.Path.{_≡_, refl, sym, ap, _∙_}
 use mathlib.Core.Logic.{_↔_, _⊎_}
 use mathlib.Core.List.{List, [], _∷_, _++_}
 use lib.ListN.{length, getD}
-use Rattle.writing.specs.Ascii.{ascii, newline}
+use Rattle.writing.specs.Ascii.{ascii, blank, newline}
 use Rattle.writing.specs.Decimal.{decimalOf}
 use Rattle.writing.specs.Value.{valueOf, Plain}
 use Rattle.writing.proofs.Back.{value-back}
@@ -17,6 +17,10 @@ use Rattle.planning.specs.Plan.{planOf}
 use Rattle.plan_answer.specs.Answer.{plannedText, saidText, programText}
 use Rattle.demands.proofs.TextForms.{says-table, names-0, names-1, names-later}
 use Rattle.demands.proofs.Sixteen.{written, only-unreadable}
+
+-- a blank and a newline as bytes
+pub bytes : (blank ≡ 32) × (newline ≡ 10)
+bytes = (refl, refl)
 
 -- a number in decimal has no leading zero and says the number, and no other such text does
 pub decimal-only : (n : ℕ) → Plain (decimalOf n) × (valueOf (decimalOf n) ≡ n) × ((s : List ℕ) → Plain s → valueOf s ≡ n → s ≡ decimalOf n)
