@@ -6,8 +6,10 @@ pub mod Stored
 pub mod Records
 pub mod Answers
 pub mod OneCall
+pub mod Exactly
 pub mod Keeps
 pub mod Always
+pub mod Refused
 pub mod Never
 pub mod Fresh
 pub mod Turns
