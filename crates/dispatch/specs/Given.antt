@@ -4,11 +4,12 @@ use mathlib.Core.Path.{_≡_}
 use mathlib.Core.Logic.{_⊎_}
 use mathlib.Core.Bool.{false}
 use Rattle.units.specs.declared.ticks.Ticks.{Ticks}
+use Rattle.planning.specs.Tasks.{taskLine}
 use Rattle.task_state.specs.declared.State.{State}
 use Rattle.dispatch.specs.declared.Record.{Record}
 use Rattle.dispatch.specs.declared.call.Call.{Call}
 use Rattle.dispatch.specs.declared.call.Call.the-variants.{Release, Finish, Look}
-use Rattle.dispatch.specs.Record.{lineAt, stateAt}
+use Rattle.dispatch.specs.Record.{stateAt}
 use Rattle.dispatch.specs.Sound.{soundOf}
 
 infixr 2 _if_else_
@@ -43,7 +44,7 @@ Past r t = t .0 < r .clock .0
 
 -- a release of task i is less than T after its last accepted release
 abbrev pub Early : Record → ℕ → Ticks → Type 0
-Early r i t = (taskState r i .had ≡ 1) × (t .0 < taskState r i .last .0 + lineAt r (i - 1) .period .0)
+Early r i t = (taskState r i .had ≡ 1) × (t .0 < taskState r i .last .0 + taskLine (r .plan) i .period .0)
 
 -- n runs of task i are unfinished
 abbrev pub Unfinished : Record → ℕ → ℕ → Type 0
