@@ -1,29 +1,34 @@
 -- Demand 1 over the calls: any calls, in any order, with any numbers. Tasks and cores are counted from 1; a call that is accepted has refusal 0.
-use Prim.Native.Nat.{ℕ, _+_, _≤_, _<_}
+use Prim.Native.Nat.{ℕ, _+_, _-_, _≤_, _<_}
 use mathlib.Core.Path.{_≡_, refl, sym, ap, _∙_}
 use mathlib.Core.Logic.{_↔_}
 use mathlib.Core.List.{List, [], _∷_, _++_}
 use lib.IntN.{pos, subℕ}
-use lib.ListN.{replicate}
+use lib.Dec.{ltb}
+use lib.ListN.{replicate, getD-replicate, List·getD-eq-default}
+use borrow.Author.Tests.{ltb-true, ltb-false, ne-eqb}
+use Rattle.lists.proofs.Tests.{by-cases}
 use Rattle.lists.specs.Lists.{zeros}
 use Rattle.units.specs.Units.{ticks}
+use Rattle.units.specs.Refusals.{refusal}
 use Rattle.units.specs.declared.ticks.Ticks.{Ticks}
 use Rattle.planning.specs.Plan.{line, emptyLine, emptyPlan, planOf}
 use Rattle.planning.specs.Tasks.{taskLine}
 use Rattle.task_state.specs.declared.State.{State}
-use Rattle.task_state.specs.State.{run, runAt, runsOf, freshState}
+use Rattle.task_state.specs.State.{run, runAt, runsOf, freshState, noState}
 use Rattle.task_state.specs.Runs.{turnAt, withRun, withoutRun}
 use Rattle.turn.specs.declared.Turn.{Turn}
 use Rattle.dispatch.specs.declared.Record.{Record}
 use Rattle.dispatch.specs.declared.look.Choice.the-variants.{Idle}
 use Rattle.dispatch.specs.declared.call.Call.{Call}
 use Rattle.dispatch.specs.declared.call.Call.the-variants.{Release, Finish, Look}
+use Rattle.dispatch.specs.declared.call.Answer.the-variants.{Refused}
 use Rattle.dispatch.specs.Record.{recordOf, freshOf}
 use Rattle.dispatch.specs.Release.{releaseOf}
 use Rattle.dispatch.specs.Finish.{finishOf}
 use Rattle.dispatch.specs.Look.{choiceOf, lookOf}
 use Rattle.dispatch.specs.Shape.{Shaped, Good}
-use Rattle.dispatch.specs.Calls.{timeOf, callRefusal, step, after}
+use Rattle.dispatch.specs.Calls.{answeredOf, timeOf, callRefusal, step, after}
 use Rattle.dispatch.specs.Given.{taskState, Given}
 use Rattle.dispatch.proofs.Answers.{release-refused, finish-refused, look-refused, look-taken}
 use Rattle.dispatch.proofs.OneCall.{release-no, finish-no, look-no}
@@ -38,6 +43,10 @@ use Rattle.dispatch.proofs.Started.{started}
 pub given-exactly : (r : Record) (c : Call) (n : ℕ) → (callRefusal r c ≡ n) ↔ Given r c n
 given-exactly = exactly
 
+-- so no two cases apply
+pub given-once : (r : Record) (c : Call) {n n′ : ℕ} → Given r c n → Given r c n′ → n ≡ n′
+given-once r c {n} {n′} g g′ = sym (exactly r c n .1 g) ∙ exactly r c n′ .1 g′
+
 -- a call that is refused by n answers n, every other number 0, and hands back the very record it was given, whatever the record
 module _ (r : Record) (i : ℕ) (t : Ticks) (n : ℕ) (some : n ≡ 0 → ⊥) where
   pub refused-release : callRefusal r (Release i t) ≡ n → releaseOf r i (t .0) ≡ record { refusal = n; core = 0; deadline = ticks 0; next = r }
@@ -48,6 +57,12 @@ module _ (r : Record) (i : ℕ) (t : Ticks) (n : ℕ) (some : n ≡ 0 → ⊥) w
 
   pub refused-look : callRefusal r (Look i t) ≡ n → lookOf r i (t .0) ≡ record { refusal = n; choice = Idle; next = r }
   refused-look e = look-refused r i (t .0) (sym e ∙ look-no r i t) some
+
+-- as a value it names no task
+pub refused-call : (r : Record) (c : Call) (n : ℕ) → (n ≡ 0 → ⊥) → callRefusal r c ≡ n → answeredOf r c ≡ record { answer = Refused (refusal n 0); next = r }
+refused-call r (Release i t) n some e = rw (answeredOf, refused-release r i t n some e, ne-eqb n 0 some)
+refused-call r (Finish i t) n some e = rw (answeredOf, refused-finish r i t n some e, ne-eqb n 0 some)
+refused-call r (Look k t) n some e = rw (answeredOf, refused-look r k t n some e, ne-eqb n 0 some)
 
 pub refused-changes-nothing : (r : Record) (c : Call) → (callRefusal r c ≡ 0 → ⊥) → step r c ≡ r
 refused-changes-nothing = refused-same
@@ -67,7 +82,7 @@ pub others-stay : (r : Record) (i : ℕ) (t : Ticks) (j : ℕ) → 0 < j → (j 
     → (taskState (step r (Release i t)) j ≡ taskState r j) × (taskState (step r (Finish i t)) j ≡ taskState r j)
 others-stay r i t j from other = (release-others r i t j from other, finish-others r i t j from other)
 
-module _ (r : Record) (shaped : Shaped r) (i : ℕ) (t : Ticks) where
+module _ (r : Record) (i : ℕ) (t : Ticks) where
   -- task i before the call
   abbrev before : State
   before = taskState r i
@@ -89,13 +104,14 @@ module _ (r : Record) (shaped : Shaped r) (i : ℕ) (t : Ticks) where
     release-answers = release-answered r i t ok
 
     -- the run stands after the task's unfinished ones
-    pub release-adds : runsOf released ≡ runsOf before ++ (run (turn .core) due ∷ [])
-    release-adds = release-runs r i t shaped ok
+    pub release-adds : Shaped r → runsOf released ≡ runsOf before ++ (run (turn .core) due ∷ [])
+    release-adds shaped = release-runs r i t shaped ok
 
     -- its release is the task's last one, and its turn is counted
-    pub release-counts : (released .last ≡ t) × (released .had ≡ 1) × (released .counts ≡ turn .counts) × (released .place ≡ turn .place)
+    pub release-counts : Shaped r
+        → (released .last ≡ t) × (released .had ≡ 1) × (released .counts ≡ turn .counts) × (released .place ≡ turn .place)
     unfolding withRun
-    release-counts =
+    release-counts shaped =
         let e = release-state r i t shaped ok in
         (ap (λ (st : State). st .last) e, ap (λ (st : State). st .had) e, ap (λ (st : State). st .counts) e, ap (λ (st : State). st .place) e)
 
@@ -109,13 +125,14 @@ module _ (r : Record) (shaped : Shaped r) (i : ℕ) (t : Ticks) where
     finish-answers = finish-answered r i t ok
 
     -- and ends that run
-    pub finish-ends : runsOf before ≡ runAt before 0 ∷ runsOf finished
-    finish-ends = finish-runs r i t shaped ok
+    pub finish-ends : Shaped r → runsOf before ≡ runAt before 0 ∷ runsOf finished
+    finish-ends shaped = finish-runs r i t shaped ok
 
     -- the rest stays
-    pub finish-keeps : (finished .last ≡ before .last) × (finished .had ≡ before .had) × (finished .counts ≡ before .counts) × (finished .place ≡ before .place)
+    pub finish-keeps : Shaped r
+        → (finished .last ≡ before .last) × (finished .had ≡ before .had) × (finished .counts ≡ before .counts) × (finished .place ≡ before .place)
     unfolding withoutRun
-    finish-keeps =
+    finish-keeps shaped =
         let e = finish-state r i t shaped ok in
         (ap (λ (st : State). st .last) e, ap (λ (st : State). st .had) e, ap (λ (st : State). st .counts) e, ap (λ (st : State). st .place) e)
 
@@ -128,6 +145,16 @@ look-answers r k t ok = look-taken r k (t .0) (sym ok ∙ look-no r k t) refl re
 module _ (m : ℕ) (xs : List ℕ) where
   abbrev fresh : Record
   fresh = freshOf m xs .next
+
+  -- it has clock 0, no runs and no release
+  pub starts-fresh : (fresh .clock .0 ≡ 0) × ((i : ℕ) → (runsOf (taskState fresh i) ≡ []) × (taskState fresh i .had ≡ 0))
+  unfolding freshOf recordOf freshState
+  starts-fresh = (
+    refl,
+    λ i. by-cases (ltb (i - 1) 64)
+        (λ e. rw (getD-replicate 64 (i - 1) freshState noState (ltb-true (i - 1) 64 e)) (refl, refl))
+        (λ e. rw (List·getD-eq-default (replicate 64 freshState) noState {n = i - 1} (ltb-false (i - 1) 64 e)) (refl, refl)),
+  )
 
   module _ (refused : freshOf m xs .refusal .no ≡ 0 → ⊥) where
     -- of a refused list it is the empty record, all numbers 0
