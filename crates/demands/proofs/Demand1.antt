@@ -1,5 +1,5 @@
 -- Demand 1 over the calls: any calls, in any order, with any numbers. Tasks and cores are counted from 1; a call that is accepted has refusal 0.
-use Prim.Native.Nat.{ℕ, _+_, _-_, _≤_, _<_}
+use Prim.Native.Nat.{ℕ, suc, _+_, _-_, _≤_, _<_}
 use mathlib.Core.Path.{_≡_, refl, sym, ap, _∙_}
 use mathlib.Core.Logic.{_↔_}
 use mathlib.Core.List.{List, [], _∷_, _++_}
@@ -13,10 +13,11 @@ use Rattle.units.specs.Units.{ticks}
 use Rattle.units.specs.Refusals.{refusal}
 use Rattle.units.specs.declared.ticks.Ticks.{Ticks}
 use Rattle.planning.specs.Plan.{line, emptyLine, emptyPlan, planOf}
-use Rattle.planning.specs.Tasks.{taskLine}
+use Rattle.planning.specs.Tasks.{taskLine, taskWeight, taskShares}
 use Rattle.task_state.specs.declared.State.{State}
 use Rattle.task_state.specs.State.{run, runAt, runsOf, freshState, noState}
 use Rattle.task_state.specs.Runs.{turnAt, withRun, withoutRun}
+use Rattle.turn.specs.Choice.{Chosen}
 use Rattle.turn.specs.declared.Turn.{Turn}
 use Rattle.dispatch.specs.declared.Record.{Record}
 use Rattle.dispatch.specs.declared.look.Choice.the-variants.{Idle}
@@ -34,7 +35,8 @@ use Rattle.dispatch.proofs.Answers.{release-refused, finish-refused, look-refus
 use Rattle.dispatch.proofs.OneCall.{release-no, finish-no, look-no}
 use Rattle.dispatch.proofs.Exactly.{exactly}
 use Rattle.dispatch.proofs.Always.{always-good, refused-same, accepted-clock, clock-rises, step-plan, plan-same}
-use Rattle.dispatch.proofs.Accepted.{release-others, finish-others, release-answered, finish-answered, release-state, finish-state, release-runs, finish-runs}
+use Rattle.dispatch.proofs.AfterRelease.{release-answered, release-state, release-runs, release-chosen, release-others}
+use Rattle.dispatch.proofs.AfterFinish.{finish-answered, finish-state, finish-runs, finish-others}
 use Rattle.dispatch.proofs.Never.{never-15}
 use Rattle.dispatch.proofs.Refused.{refused-empty, refused-unsound, unsound-15, unsound-stays}
 use Rattle.dispatch.proofs.Started.{started}
@@ -64,6 +66,7 @@ refused-call r (Release i t) n some e = rw (answeredOf, refused-release r i t n 
 refused-call r (Finish i t) n some e = rw (answeredOf, refused-finish r i t n some e, ne-eqb n 0 some)
 refused-call r (Look k t) n some e = rw (answeredOf, refused-look r k t n some e, ne-eqb n 0 some)
 
+-- so it changes nothing
 pub refused-changes-nothing : (r : Record) (c : Call) → (callRefusal r c ≡ 0 → ⊥) → step r c ≡ r
 refused-changes-nothing = refused-same
 
@@ -95,7 +98,7 @@ module _ (r : Record) (i : ℕ) (t : Ticks) where
   due = t .0 + taskLine (r .plan) i .period .0
 
   module _ (ok : callRefusal r (Release i t) ≡ 0) where
-    -- task i after it
+    -- task i after a release that is accepted
     abbrev released : State
     released = taskState (step r (Release i t)) i
 
@@ -103,20 +106,26 @@ module _ (r : Record) (i : ℕ) (t : Ticks) where
     pub release-answers : releaseOf r i (t .0) ≡ record { refusal = 0; core = turn .core; deadline = ticks due; next = step r (Release i t) }
     release-answers = release-answered r i t ok
 
+    -- that core is open, with the least due place, lowest core at a tie, by the counts and the place in the turn cycle
+    pub release-core : Shaped r
+        → (k : ℕ) × (turn .core ≡ suc k)
+        × Chosen (taskWeight (r .plan) i) (before .place) (taskShares (r .plan) i) (before .counts) 16 k
+    release-core shaped = release-chosen r i t ok shaped
+
     -- the run stands after the task's unfinished ones
     pub release-adds : Shaped r → runsOf released ≡ runsOf before ++ (run (turn .core) due ∷ [])
-    release-adds shaped = release-runs r i t shaped ok
+    release-adds shaped = release-runs r i t ok shaped
 
     -- its release is the task's last one, and its turn is counted
     pub release-counts : Shaped r
         → (released .last ≡ t) × (released .had ≡ 1) × (released .counts ≡ turn .counts) × (released .place ≡ turn .place)
     unfolding withRun
     release-counts shaped =
-        let e = release-state r i t shaped ok in
+        let e = release-state r i t ok shaped in
         (ap (λ (st : State). st .last) e, ap (λ (st : State). st .had) e, ap (λ (st : State). st .counts) e, ap (λ (st : State). st .place) e)
 
   module _ (ok : callRefusal r (Finish i t) ≡ 0) where
-    -- task i after it
+    -- task i after a finish that is accepted
     abbrev finished : State
     finished = taskState (step r (Finish i t)) i
 
@@ -126,14 +135,14 @@ module _ (r : Record) (i : ℕ) (t : Ticks) where
 
     -- and ends that run
     pub finish-ends : Shaped r → runsOf before ≡ runAt before 0 ∷ runsOf finished
-    finish-ends shaped = finish-runs r i t shaped ok
+    finish-ends shaped = finish-runs r i t ok shaped
 
     -- the rest stays
     pub finish-keeps : Shaped r
         → (finished .last ≡ before .last) × (finished .had ≡ before .had) × (finished .counts ≡ before .counts) × (finished .place ≡ before .place)
     unfolding withoutRun
     finish-keeps shaped =
-        let e = finish-state r i t shaped ok in
+        let e = finish-state r i t ok shaped in
         (ap (λ (st : State). st .last) e, ap (λ (st : State). st .had) e, ap (λ (st : State). st .counts) e, ap (λ (st : State). st .place) e)
 
 -- look answers the core's choice, and only the clock moves on

@@ -10,7 +10,8 @@ pub mod OneCall
 pub mod Exactly
 pub mod Keeps
 pub mod Always
-pub mod Accepted
+pub mod AfterRelease
+pub mod AfterFinish
 pub mod Refused
 pub mod Never
 pub mod Fresh
