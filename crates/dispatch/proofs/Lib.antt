@@ -4,10 +4,15 @@ pub mod Called
 pub mod Looking
 pub mod Stored
 pub mod Records
+pub mod Runs
 pub mod Answers
 pub mod OneCall
+pub mod Exactly
 pub mod Keeps
 pub mod Always
+pub mod AfterRelease
+pub mod AfterFinish
+pub mod Refused
 pub mod Never
 pub mod Fresh
 pub mod Turns

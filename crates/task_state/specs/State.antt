@@ -1,6 +1,6 @@
 -- What a task is at: its last release, its unfinished runs, its turn counts and their place.
-use Prim.Native.Nat.{ℕ}
-use mathlib.Core.List.{[]}
+use Prim.Native.Nat.{ℕ, zero, suc}
+use mathlib.Core.List.{List, [], _∷_, _++_}
 use lib.ListN.{getD, replicate}
 use Rattle.units.specs.Limits.{coresLimit, runsLimit}
 use Rattle.units.specs.Units.{ticks}
@@ -31,3 +31,12 @@ noState = record { last = ticks 0; deadlines = []; counts = []; place = 0; cores
 -- a task's k-th unfinished run, oldest first, from 0
 abbrev pub runAt : State → ℕ → Run
 runAt st k = run (getD (st .cores) k 0) (getD (st .deadlines) k (ticks 0) .0)
+
+-- a task's first n runs, oldest first
+abbrev pub firstRuns : State → ℕ → List Run
+firstRuns st zero = []
+firstRuns st (suc n) = firstRuns st n ++ (runAt st n ∷ [])
+
+-- its unfinished runs
+abbrev pub runsOf : State → List Run
+runsOf st = firstRuns st (st .live)
