@@ -1,52 +1,49 @@
 -- What the host's calls answer, in document 01's words.
 use Prim.Native.Nat.{ℕ, _*_, _/_, _%_, _≤_, _<_}
 use mathlib.Core.Path.{_≡_, refl}
-use mathlib.Core.Logic.{inl, inr}
+use mathlib.Core.Logic.{_⊎_, inl, inr, ⊎-elim, _↔_}
 use mathlib.Core.List.{List, _++_}
 use native.Mathlib.Omega.{arith}
 use lib.Dec.{eqb}
 use lib.IntN.{pos}
 use lib.ListN.{length, drop}
-use borrow.Author.Tests.{eqb-true, ne-eqb, eq-eqb, le-leb, lt-leb}
+use borrow.Author.Tests.{eqb-true, eqb-false, ne-eqb, eq-eqb, le-leb, lt-leb}
 use Rattle.units.specs.Limits.{tasksLimit}
 use Rattle.lists.proofs.Tests.{by-cases}
 use Rattle.planning.specs.Plan.{planOf}
 use Rattle.listing.specs.Listing.{listingText}
 use Rattle.listing.specs.Listed.{planListed, planAfter, tableListed, tableAfter, listingLimit}
+use Rattle.little_endian.specs.Number.{numbersOf}
 use Rattle.admission.specs.Admission.{planRefusal}
+use Rattle.admission.specs.Words.{TableOut}
 use Rattle.host.specs.Host.{tableIn, admitOf, negative, answered, hostListed, hostAfter}
 use Rattle.host.proofs.Numbers.{numbers-length}
-use Rattle.host.proofs.Out.{out}
-use Rattle.host.specs.Words.{OneOrTwo}
 use Rattle.listing.proofs.TableFits.{taken-length}
 
+-- bytes of no whole tasks, in numbers of four bytes
+halves : (n k : ℕ) → n % 4 ≡ 0 → k ≡ n / 4 → (n % 8 ≡ 0 → ⊥) → k % 2 ≡ 1
+halves n k four e eight = omega arith
+
+-- bytes of whole tasks
+wholes : (n k : ℕ) → n % 4 ≡ 0 → k ≡ n / 4 → k % 2 ≡ 1 → n % 8 ≡ 0 → ⊥
+wholes n k four e odd eight = let d : k ≡ 2 * (n / 8) = omega arith in omega arith
+
+-- a table empty, over 64 tasks, or ending inside a task, counted in bytes
+pub table-out : (bytes : List ℕ) → TableOut (tableIn bytes) ↔ ((length bytes ≡ 0) ⊎ (8 * tasksLimit < length bytes) ⊎ (length bytes % 8 ≡ 0 → ⊥))
+unfolding tableIn
+table-out bytes =
+    by-cases (eqb (length bytes % 4) 0)
+    (λ e. let f = eqb-true (length bytes % 4) 0 e in let n = numbers-length bytes in rw e (
+      ⊎-elim
+          (λ z. inl (omega arith))
+          (⊎-elim (λ h. inr (inl (omega arith))) (λ o. inr (inr (wholes (length bytes) (length (numbersOf bytes)) f n o)))),
+      ⊎-elim
+          (λ z. inl (omega arith))
+          (⊎-elim (λ h. inr (inl (omega arith))) (λ o. inr (inr (halves (length bytes) (length (numbersOf bytes)) f n o)))),
+    ))
+    (λ e. let f = eqb-false (length bytes % 4) 0 e in rw e (λ o. inr (inr (λ h. f (omega arith))), λ o. inl refl))
+
 module _ (m : ℕ) (bytes : List ℕ) where
-  -- an empty table
-  pub none : length bytes ≡ 0 → OneOrTwo m (admitOf m bytes)
-  unfolding admitOf tableIn
-  none e = out m (tableIn bytes) (rw (eq-eqb (length bytes % 4) 0 (omega arith)) (inl (omega (arith, numbers-length bytes))))
-
-  -- a table that ends inside a task
-  pub inside : (length bytes % 8 ≡ 0 → ⊥) → OneOrTwo m (admitOf m bytes)
-  unfolding admitOf tableIn
-  inside n =
-      out m (tableIn bytes)
-      (by-cases (eqb (length bytes % 4) 0)
-      (λ e. rw e (inr (inr (half (length bytes) (eqb-true (length bytes % 4) 0 e) n (numbers-length bytes)))))
-      (λ e. rw e (inl refl)))
-    where
-      half : (n : ℕ) {k : ℕ} → n % 4 ≡ 0 → (n % 8 ≡ 0 → ⊥) → k ≡ n / 4 → k % 2 ≡ 1
-      half n four eight e = omega arith
-
-  -- a table of over 64 tasks
-  pub over : 8 * tasksLimit < length bytes → OneOrTwo m (admitOf m bytes)
-  unfolding admitOf tableIn
-  over h =
-      out m (tableIn bytes)
-      (by-cases (eqb (length bytes % 4) 0)
-      (λ e. rw e (inr (inl (omega (arith, numbers-length bytes, eqb-true (length bytes % 4) 0 e)))))
-      (λ e. rw e (inl refl)))
-
   -- the text that is listed
   abbrev text : List ℕ
   text = listingText (planOf m (tableIn bytes) .plan)
