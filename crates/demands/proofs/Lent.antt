@@ -1,28 +1,44 @@
 -- Lent bytes: what a listing answers and leaves in a lent buffer, of a record, of a table and for the host, and what the program writes.
 use Prim.Native.Nat.{ℕ, _+_, _*_, _/_, _%_, _≤_, _<_}
-use mathlib.Core.Path.{_≡_, refl, sym, ap, _∙_}
-use mathlib.Core.Logic.{_⊎_, _↔_}
+use mathlib.Core.Path.{_≡_, refl, sym, ap, _∙_, subst}
+use mathlib.Core.Logic.{_⊎_, ⊎-elim, _↔_}
 use mathlib.Core.Bool.{true, false}
 use mathlib.Core.List.{List, _++_}
 use native.Mathlib.Omega.{arith}
 use lib.Dec.{eqb}
+use lib.IntN.{pos}
 use lib.ListN.{length, getD, drop}
 use borrow.Author.Tests.{eqb-true, eqb-false, eq-eqb, ne-eqb}
 use Rattle.units.specs.Refusals.{refusal}
 use Rattle.units.specs.declared.refusal.Refusal.{Refusal}
 use Rattle.admission.specs.Admission.{planRefusal}
+use Rattle.admission.specs.Words.{CoresIn, tasks, cost, period}
 use Rattle.admission.specs.Given.{Given, Taken}
 use Rattle.admission.proofs.Exactly.{exactly-taken}
-use Rattle.admission.proofs.FirstThatApplies.{given, numbers}
+use Rattle.admission.proofs.FirstThatApplies.{says as saysRefusal, given, exactly-2, numbers}
+use Rattle.admission.proofs.Gives.{gives-no}
 use Rattle.planning.specs.Plan.{planOf}
 use Rattle.dispatch.specs.declared.Record.{Record}
 use Rattle.dispatch.specs.Record.{freshOf}
 use Rattle.dispatch.specs.Sound.{soundOf}
-use Rattle.listing.specs.declared.listed.Listed.{Listed}
+use Rattle.dispatch.specs.Shape.{Good}
+use Rattle.writing.specs.Ascii.{ascii}
+use Rattle.writing.specs.Decimal.{decimalOf}
+use Rattle.writing.specs.Refused.{refusalText}
 use Rattle.listing.specs.Listing.{listingText}
 use Rattle.listing.specs.Listed.{listedOf, bufferAfter, tableListed, tableAfter}
+use Rattle.listing.proofs.Listing.{record-determined}
+use Rattle.table_text.specs.Text.{says, unreadable, textOf}
+use Rattle.plan_answer.specs.Answer.{answerText}
+use Rattle.plan_answer.proofs.Words.{listed as text-listed}
+use Rattle.host.specs.Host.{tableIn, admitOf, negative, hostListed, hostAfter}
+use Rattle.host.proofs.Words.{table-out, planning-first, fourteen, listed, enough}
 use Rattle.demands.proofs.Lists.{first, then-14, none, refused, accepted}
+use Rattle.demands.proofs.Bytes.{tasks-are, cost-is, period-is}
+use Rattle.demands.proofs.HostLists.{first as answered-first, then-14 as answered-14, the-length as answered-length}
 use Rattle.demands.proofs.Refused.{fresh-unsound}
+use Rattle.demands.proofs.RefusalLines.{alone, with-task, with-line}
+use Rattle.demands.proofs.Program.{first-16, then-planning}
 
 -- none of 1 to 6 applies, as planning tests it
 is-taken : (m : ℕ) (xs : List ℕ) → (eqb (planRefusal m xs .no) 0 ≡ true) ↔ Taken m xs
@@ -30,6 +46,10 @@ is-taken m xs = (
   λ e. exactly-taken m xs .0 (eqb-true (planRefusal m xs .no) 0 e),
   λ t. eq-eqb (planRefusal m xs .no) 0 (exactly-taken m xs .1 t),
 )
+
+-- the number that planning gives
+admitted : (m : ℕ) (xs : List ℕ) (n : ℕ) → (planRefusal m xs .no ≡ n) ↔ ((i : ℕ) × Given m xs n i)
+admitted m xs n = (λ e. (planRefusal m xs .named, subst (λ (k : ℕ). Given m xs k (planRefusal m xs .named)) e (saysRefusal m xs)), λ g. gives-no m xs (g .1))
 
 -- a record handed in, and the lent buffer
 module _ (r : Record) (buf : List ℕ) where
@@ -104,3 +124,94 @@ module _ (m : ℕ) (xs buf : List ℕ) where
       × (tableAfter m xs buf ≡ listingText (planOf m xs .plan) ++ drop (length (listingText (planOf m xs .plan))) buf)
   unfolding tableListed tableAfter
   table-listed = accepted (eqb (planRefusal m xs .no) 0) (planRefusal m xs) (planOf m xs .plan) buf (eqb-false (planRefusal m xs .no) 0)
+
+-- a sound record's listing says its plan: only one plan has it
+pub listing-says-plan : (r s : Record) → Good r → Good s → listingText (r .plan) ≡ listingText (s .plan) → r .plan ≡ s .plan
+listing-says-plan = record-determined
+
+-- the table that the host hands in as bytes, eight for a task; task k, counted from 0
+module _ (bytes : List ℕ) (whole : length bytes % 8 ≡ 0) where
+  -- so many tasks
+  pub tasks-in-bytes : tasks (tableIn bytes) ≡ length bytes / 8
+  tasks-in-bytes = tasks-are bytes whole
+
+  -- its cost stands first, least byte first
+  pub cost-in-bytes : (k : ℕ) → k < length bytes / 8 → cost (tableIn bytes) k
+      ≡ getD bytes (8 * k) 0 + 256 * getD bytes (8 * k + 1) 0 + 65536 * getD bytes (8 * k + 2) 0 + 16777216 * getD bytes (8 * k + 3) 0
+  cost-in-bytes = cost-is bytes whole
+
+  -- then its period
+  pub period-in-bytes : (k : ℕ) → k < length bytes / 8 → period (tableIn bytes) k
+      ≡ getD bytes (8 * k + 4) 0 + 256 * getD bytes (8 * k + 5) 0 + 65536 * getD bytes (8 * k + 6) 0 + 16777216 * getD bytes (8 * k + 7) 0
+  period-in-bytes = period-is bytes whole
+
+-- the host's two calls
+module _ (m : ℕ) (bytes : List ℕ) where
+  -- the admission number is 0 or a refusal, each exactly in its case
+  pub host-admission : (n : ℕ) → (admitOf m bytes ≡ n) ↔ ((i : ℕ) × Given m (tableIn bytes) n i)
+  unfolding admitOf
+  host-admission n = admitted m (tableIn bytes) n
+
+  -- 2 exactly if, with a core count of 1 to 16, there are no bytes, bytes of over 64 tasks, or bytes that end inside a task
+  pub host-2 : (admitOf m bytes ≡ 2) ↔ (CoresIn m × ((length bytes ≡ 0) ⊎ (512 < length bytes) ⊎ (length bytes % 8 ≡ 0 → ⊥)))
+  unfolding admitOf
+  host-2 = (
+    λ e. let h = exactly-2 m (tableIn bytes) .0 e in (h .0, table-out bytes .0 (h .1)),
+    λ h. exactly-2 m (tableIn bytes) .1 (h .0, table-out bytes .1 (h .1)),
+  )
+
+  -- the text that is listed
+  abbrev listing : List ℕ
+  listing = listingText (planOf m (tableIn bytes) .plan)
+
+  module _ (buf : List ℕ) where
+    -- the listing is answered by planning's refusal number made negative, exactly where that is the admission number
+    pub host-planning : (n : ℕ) → 0 < n → n ≤ 6 → (hostListed m bytes (length buf) ≡ negative n) ↔ (admitOf m bytes ≡ n)
+    host-planning = answered-first m bytes buf
+
+    -- then by 14 made negative, exactly if there is none and the listing is longer than the lent buffer
+    pub host-14 : (hostListed m bytes (length buf) ≡ negative 14) ↔ ((admitOf m bytes ≡ 0) × (length buf < length listing))
+    host-14 = answered-14 m bytes buf
+
+    -- else by its length in bytes
+    pub host-length : (k : ℕ) → (hostListed m bytes (length buf) ≡ pos k) ↔ ((admitOf m bytes ≡ 0) × (length listing ≤ length buf) × (length listing ≡ k))
+    host-length = answered-length m bytes buf
+
+    -- no refusal changes a lent byte
+    pub host-refused : ((admitOf m bytes ≡ 0 → ⊥) ⊎ ((admitOf m bytes ≡ 0) × (length buf < length listing))) → hostAfter m bytes buf ≡ buf
+    host-refused = ⊎-elim (λ n. planning-first m bytes buf n .1) (λ h. fourteen m bytes buf (h .0) (h .1) .1)
+
+    -- else the buffer holds the listing, and the bytes past it stay
+    pub host-listed : admitOf m bytes ≡ 0 → length listing ≤ length buf → hostAfter m bytes buf ≡ listing ++ drop (length listing) buf
+    host-listed e h = listed m bytes buf e h .1
+
+  -- 15,960 bytes are enough for any listing
+  pub host-enough : admitOf m bytes ≡ 0 → length listing ≤ 15960
+  host-enough = enough m bytes
+
+-- a refusal's line: `refused 6`
+pub refused-alone : (n : ℕ) → (n ≡ 16 → ⊥) → refusalText (refusal n 0) ≡ ascii "refused " ++ decimalOf n ++ ascii "\n"
+refused-alone = alone
+
+-- `refused 3 task 2`
+pub refused-task : (n i : ℕ) → (n ≡ 16 → ⊥) → 0 < i → refusalText (refusal n i) ≡ ascii "refused " ++ decimalOf n ++ ascii " task " ++ decimalOf i ++ ascii "\n"
+refused-task = with-task
+
+-- `refused 16 line 4`
+pub refused-line : (line : ℕ) → refusalText (refusal 16 line) ≡ ascii "refused 16 line " ++ decimalOf line ++ ascii "\n"
+refused-line = with-line
+
+-- what the program writes for a text, into a buffer with room for any listing
+module _ (room : ℕ) (enough : 15960 ≤ room) (s : List ℕ) where
+  -- 16 first, naming a line, exactly if the text can't be read there
+  pub program-16 : (line : ℕ) → (answerText room s ≡ refusalText (refusal 16 line)) ↔ (textOf s ≡ unreadable line)
+  program-16 = first-16 room enough s
+
+  -- then planning's, each of 1 to 6 exactly if it is given for what the text says
+  pub program-planning : (n i : ℕ) → 0 < n → n ≤ 6
+      → (answerText room s ≡ refusalText (refusal n i)) ↔ ((m : ℕ) × (xs : List ℕ) × (textOf s ≡ says m xs) × Given m xs n i)
+  program-planning = then-planning room enough s
+
+  -- else the listing
+  pub program-listed : (m : ℕ) (xs : List ℕ) → textOf s ≡ says m xs → Taken m xs → answerText room s ≡ listingText (planOf m xs .plan)
+  program-listed m xs e t = text-listed room s m xs e enough (exactly-taken m xs .1 t)

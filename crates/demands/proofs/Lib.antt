@@ -3,5 +3,9 @@ pub mod Demand2
 pub mod Demand1
 pub mod Demand3
 pub mod Lists
+pub mod Bytes
+pub mod HostLists
 pub mod Refused
+pub mod RefusalLines
+pub mod Program
 pub mod Lent
