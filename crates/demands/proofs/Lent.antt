@@ -1,12 +1,12 @@
 -- Lent bytes: what a listing answers and leaves in a lent buffer, of a record, of a table and for the host, and what the program writes.
 use Prim.Native.Nat.{ℕ, _+_, _*_, _/_, _%_, _≤_, _<_}
 use mathlib.Core.Path.{_≡_, refl, sym, ap, _∙_, subst}
-use mathlib.Core.Logic.{_⊎_, ⊎-elim, _↔_}
+use mathlib.Core.Logic.{_⊎_, _↔_}
 use mathlib.Core.Bool.{true, false}
 use mathlib.Core.List.{List, _++_}
 use native.Mathlib.Omega.{arith}
 use lib.Dec.{eqb}
-use lib.IntN.{pos}
+use lib.IntN.{pos, negℤ}
 use lib.ListN.{length, getD, drop}
 use borrow.Author.Tests.{eqb-true, eqb-false, eq-eqb, ne-eqb}
 use Rattle.units.specs.Refusals.{refusal}
@@ -27,15 +27,15 @@ use Rattle.writing.specs.Decimal.{decimalOf}
 use Rattle.writing.specs.Refused.{refusalText}
 use Rattle.listing.specs.Listing.{listingText}
 use Rattle.listing.specs.Listed.{listedOf, bufferAfter, tableListed, tableAfter}
+use Rattle.listing.proofs.TableFits.{taken-length}
 use Rattle.listing.proofs.Listing.{record-determined}
 use Rattle.table_text.specs.Text.{says, unreadable, textOf}
 use Rattle.plan_answer.specs.Answer.{answerText}
 use Rattle.plan_answer.proofs.Words.{listed as text-listed}
-use Rattle.host.specs.Host.{tableIn, admitOf, negative, hostListed, hostAfter}
-use Rattle.host.proofs.Words.{table-out, planning-first, fourteen, listed, enough}
+use Rattle.host.specs.Host.{tableIn, admitOf, hostListed, hostAfter}
 use Rattle.demands.proofs.Lists.{first, then-14, none, refused, accepted}
-use Rattle.demands.proofs.Bytes.{tasks-are, cost-is, period-is}
-use Rattle.demands.proofs.HostLists.{first as answered-first, then-14 as answered-14, the-length as answered-length}
+use Rattle.demands.proofs.Bytes.{table-out, tasks-are, cost-is, period-is}
+use Rattle.demands.proofs.HostLists.{first as answered-first, then-14 as answered-14, the-length as answered-length, refused as answered-refused, accepted as answered-accepted}
 use Rattle.demands.proofs.Refused.{fresh-unsound}
 use Rattle.demands.proofs.RefusalLines.{alone, with-task, with-line}
 use Rattle.demands.proofs.Program.{first-16, then-planning}
@@ -166,11 +166,11 @@ module _ (m : ℕ) (bytes : List ℕ) where
 
   module _ (buf : List ℕ) where
     -- the listing is answered by planning's refusal number made negative, exactly where that is the admission number
-    pub host-planning : (n : ℕ) → 0 < n → n ≤ 6 → (hostListed m bytes (length buf) ≡ negative n) ↔ (admitOf m bytes ≡ n)
+    pub host-planning : (n : ℕ) → 0 < n → n ≤ 6 → (hostListed m bytes (length buf) ≡ negℤ (pos n)) ↔ (admitOf m bytes ≡ n)
     host-planning = answered-first m bytes buf
 
     -- then by 14 made negative, exactly if there is none and the listing is longer than the lent buffer
-    pub host-14 : (hostListed m bytes (length buf) ≡ negative 14) ↔ ((admitOf m bytes ≡ 0) × (length buf < length listing))
+    pub host-14 : (hostListed m bytes (length buf) ≡ negℤ (pos 14)) ↔ ((admitOf m bytes ≡ 0) × (length buf < length listing))
     host-14 = answered-14 m bytes buf
 
     -- else by its length in bytes
@@ -178,16 +178,17 @@ module _ (m : ℕ) (bytes : List ℕ) where
     host-length = answered-length m bytes buf
 
     -- no refusal changes a lent byte
-    pub host-refused : ((admitOf m bytes ≡ 0 → ⊥) ⊎ ((admitOf m bytes ≡ 0) × (length buf < length listing))) → hostAfter m bytes buf ≡ buf
-    host-refused = ⊎-elim (λ n. planning-first m bytes buf n .1) (λ h. fourteen m bytes buf (h .0) (h .1) .1)
+    pub host-refused : (n : ℕ) → 0 < n → hostListed m bytes (length buf) ≡ negℤ (pos n) → hostAfter m bytes buf ≡ buf
+    host-refused = answered-refused m bytes buf
 
     -- else the buffer holds the listing, and the bytes past it stay
-    pub host-listed : admitOf m bytes ≡ 0 → length listing ≤ length buf → hostAfter m bytes buf ≡ listing ++ drop (length listing) buf
-    host-listed e h = listed m bytes buf e h .1
+    pub host-listed : (k : ℕ) → hostListed m bytes (length buf) ≡ pos k → hostAfter m bytes buf ≡ listing ++ drop (length listing) buf
+    host-listed = answered-accepted m bytes buf
 
   -- 15,960 bytes are enough for any listing
   pub host-enough : admitOf m bytes ≡ 0 → length listing ≤ 15960
-  host-enough = enough m bytes
+  unfolding admitOf
+  host-enough = taken-length m (tableIn bytes)
 
 -- a refusal's line: `refused 6`
 pub refused-alone : (n : ℕ) → (n ≡ 16 → ⊥) → refusalText (refusal n 0) ≡ ascii "refused " ++ decimalOf n ++ ascii "\n"

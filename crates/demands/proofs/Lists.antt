@@ -30,12 +30,12 @@ module _ (b : Bool) (a : Refusal) (pl : Plan) (buf : List ℕ) where
   after = cond b (planAfter pl buf) buf
 
   -- the three cases
-  data Case : Type 0 where
+  pub data Case : Type 0 where
     earlier : b ≡ false → answer ≡ unlisted a → after ≡ buf → Case
     short : b ≡ true → length buf < length text → answer ≡ unlisted (refusal 14 0) → after ≡ buf → Case
     whole : b ≡ true → length text ≤ length buf → answer ≡ listedWhole (length text) → after ≡ text ++ drop (length text) buf → Case
 
-  case : Case
+  pub case : Case
   unfolding planListed planAfter
   case =
       by-cases b

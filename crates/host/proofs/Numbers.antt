@@ -1,9 +1,9 @@
 -- A table's bytes read four at a time.
-use Prim.Native.Nat.{ℕ, zero, suc, _+_, _*_, _-_, _/_, _≤_, _<_}
+use Prim.Native.Nat.{ℕ, suc, _+_, _*_, _-_, _/_, _≤_, _<_}
 use mathlib.Core.Path.{_≡_, refl}
 use mathlib.Core.List.{List, [], _∷_}
 use native.Mathlib.Omega.{arith}
-use lib.ListN.{length, getD, drop, set, length-drop}
+use lib.ListN.{length, drop, set, length-drop}
 use lib.Seq.{drop-cons}
 use Rattle.units.specs.Limits.{tasksLimit}
 use Rattle.lists.specs.Lists.{zeros}
@@ -18,20 +18,6 @@ numbers-length (a ∷ []) = refl
 numbers-length (a ∷ b ∷ []) = refl
 numbers-length (a ∷ b ∷ c ∷ []) = refl
 numbers-length (a ∷ b ∷ c ∷ d ∷ bytes) = omega (arith, numbers-length bytes)
-
--- number k is that of its four bytes
-pub number-at : (bytes : List ℕ) (k : ℕ) → 4 * k + 3 < length bytes → getD (numbersOf bytes) k 0 ≡ number32At bytes (4 * k)
-number-at [] k h = absurd (omega arith)
-number-at (a ∷ []) k h = absurd (omega arith)
-number-at (a ∷ b ∷ []) k h = absurd (omega arith)
-number-at (a ∷ b ∷ c ∷ []) k h = absurd (omega arith)
-number-at (a ∷ b ∷ c ∷ d ∷ bytes) zero h = refl
-number-at (a ∷ b ∷ c ∷ d ∷ bytes) (suc k) h =
-    let e : 4 * suc k ≡ suc (suc (suc (suc (4 * k)))) = omega arith in
-    rw (e, on (4 * k) 1, on (4 * k) 2, on (4 * k) 3) (number-at bytes k (omega arith))
-  where
-    on : (at i : ℕ) → suc (suc (suc (suc at))) + i ≡ suc (suc (suc (suc (at + i))))
-    on at i = omega arith
 
 -- from number k on: its four bytes, then the numbers after it
 number-drop : (bytes : List ℕ) (k : ℕ) → 4 * k + 3 < length bytes → numbersOf (drop (4 * k) bytes) ≡ number32At bytes (4 * k) ∷ numbersOf
