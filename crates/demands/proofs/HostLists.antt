@@ -1,6 +1,6 @@
 -- What the host's call for a listing answers and leaves in the buffer: planning's refusal number made negative, then -14, else the length.
 use Prim.Native.Nat.{ℕ, zero, suc, _≤_, _<_}
-use mathlib.Core.Path.{_≡_, refl, sym, ap, _∙_}
+use mathlib.Core.Path.{_≡_, refl, sym, ap, _∙_, subst}
 use mathlib.Core.Logic.{_↔_}
 use mathlib.Core.List.{List, _++_}
 use native.Mathlib.Omega.{arith}
@@ -9,13 +9,19 @@ use lib.IntN.{ℤ, pos, negsuc, natAbs}
 use lib.ListN.{length, drop}
 use borrow.Author.Tests.{eqb-true, eqb-false}
 use Rattle.admission.specs.Admission.{planRefusal}
-use Rattle.admission.proofs.FirstThatApplies.{numbers}
+use Rattle.admission.specs.Given.{Given}
+use Rattle.admission.proofs.FirstThatApplies.{says, numbers}
+use Rattle.admission.proofs.Gives.{gives-no}
 use Rattle.planning.specs.Plan.{planOf}
 use Rattle.listing.specs.Listing.{listingText}
 use Rattle.listing.specs.Listed.{tableListed, tableAfter}
 use Rattle.host.specs.Host.{tableIn, admitOf, negative, answered, hostListed, hostAfter}
 use Rattle.demands.proofs.Lists.{Case as ListCase, case as list-case}
 use Rattle.demands.proofs.Lists.Case.{earlier as list-earlier, short as list-short, whole as list-whole}
+
+-- the number that planning gives
+pub admitted : (m : ℕ) (xs : List ℕ) (n : ℕ) → (planRefusal m xs .no ≡ n) ↔ ((i : ℕ) × Given m xs n i)
+admitted m xs n = (λ e. (planRefusal m xs .named, subst (λ (k : ℕ). Given m xs k (planRefusal m xs .named)) e (says m xs)), λ g. gives-no m xs (g .1))
 
 -- a number made negative says it
 negative-back : (n : ℕ) → natAbs (negative n) ≡ n

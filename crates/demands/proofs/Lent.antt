@@ -1,6 +1,6 @@
 -- Lent bytes: what a listing answers and leaves in a lent buffer, of a record, of a table and for the host, and what the program writes.
 use Prim.Native.Nat.{ℕ, _+_, _*_, _/_, _%_, _≤_, _<_}
-use mathlib.Core.Path.{_≡_, refl, sym, ap, _∙_, subst}
+use mathlib.Core.Path.{_≡_, refl, sym, ap, _∙_}
 use mathlib.Core.Logic.{_⊎_, _↔_}
 use mathlib.Core.Bool.{true, false}
 use mathlib.Core.List.{List, _++_}
@@ -8,15 +8,14 @@ use native.Mathlib.Omega.{arith}
 use lib.Dec.{eqb}
 use lib.IntN.{pos, negℤ}
 use lib.ListN.{length, getD, drop}
-use borrow.Author.Tests.{eqb-true, eqb-false, eq-eqb, ne-eqb}
+use lib.Seq.{sets}
+use borrow.Author.Tests.{eqb-false, ne-eqb}
 use Rattle.units.specs.Refusals.{refusal}
 use Rattle.units.specs.declared.refusal.Refusal.{Refusal}
 use Rattle.admission.specs.Admission.{planRefusal}
 use Rattle.admission.specs.Words.{CoresIn, tasks, cost, period}
 use Rattle.admission.specs.Given.{Given, Taken}
-use Rattle.admission.proofs.Exactly.{exactly-taken}
-use Rattle.admission.proofs.FirstThatApplies.{says as saysRefusal, given, exactly-2, numbers}
-use Rattle.admission.proofs.Gives.{gives-no}
+use Rattle.admission.proofs.FirstThatApplies.{given, exactly-2, numbers}
 use Rattle.planning.specs.Plan.{planOf}
 use Rattle.dispatch.specs.declared.Record.{Record}
 use Rattle.dispatch.specs.Record.{freshOf}
@@ -29,27 +28,16 @@ use Rattle.listing.specs.Listing.{listingText}
 use Rattle.listing.specs.Listed.{listedOf, bufferAfter, tableListed, tableAfter}
 use Rattle.listing.proofs.TableFits.{taken-length}
 use Rattle.listing.proofs.Listing.{record-determined}
-use Rattle.table_text.specs.Text.{says, unreadable, textOf}
+use Rattle.table_text.specs.Text.{says, unreadable, textOf, tableSaid, answerOf, readingRefusal}
 use Rattle.plan_answer.specs.Answer.{answerText}
-use Rattle.plan_answer.proofs.Words.{listed as text-listed}
 use Rattle.host.specs.Host.{tableIn, admitOf, hostListed, hostAfter}
-use Rattle.demands.proofs.Lists.{first, then-14, none, refused, accepted}
+use Rattle.demands.proofs.Lists.{is-taken, first, then-14, none, refused, accepted}
 use Rattle.demands.proofs.Bytes.{table-out, tasks-are, cost-is, period-is}
-use Rattle.demands.proofs.HostLists.{first as answered-first, then-14 as answered-14, the-length as answered-length, refused as answered-refused, accepted as answered-accepted}
+use Rattle.demands.proofs.HostLists.{admitted, first as answered-first, then-14 as answered-14, the-length as answered-length, refused as answered-refused, accepted as answered-accepted}
 use Rattle.demands.proofs.Refused.{fresh-unsound}
 use Rattle.demands.proofs.RefusalLines.{alone, with-task, with-line}
-use Rattle.demands.proofs.Program.{first-16, then-planning}
-
--- none of 1 to 6 applies, as planning tests it
-is-taken : (m : ℕ) (xs : List ℕ) → (eqb (planRefusal m xs .no) 0 ≡ true) ↔ Taken m xs
-is-taken m xs = (
-  λ e. exactly-taken m xs .0 (eqb-true (planRefusal m xs .no) 0 e),
-  λ t. eq-eqb (planRefusal m xs .no) 0 (exactly-taken m xs .1 t),
-)
-
--- the number that planning gives
-admitted : (m : ℕ) (xs : List ℕ) (n : ℕ) → (planRefusal m xs .no ≡ n) ↔ ((i : ℕ) × Given m xs n i)
-admitted m xs n = (λ e. (planRefusal m xs .named, subst (λ (k : ℕ). Given m xs k (planRefusal m xs .named)) e (saysRefusal m xs)), λ g. gives-no m xs (g .1))
+use Rattle.demands.proofs.Program.{reading, unread-kept, first-16, then-planning, else-listed}
+use Rattle.demands.proofs.SaysTable.{says-table}
 
 -- a record handed in, and the lent buffer
 module _ (r : Record) (buf : List ℕ) where
@@ -125,9 +113,14 @@ module _ (m : ℕ) (xs buf : List ℕ) where
   unfolding tableListed tableAfter
   table-listed = accepted (eqb (planRefusal m xs .no) 0) (planRefusal m xs) (planOf m xs .plan) buf (eqb-false (planRefusal m xs .no) 0)
 
--- a sound record's listing says its plan: only one plan has it
+-- what is listed can be told back: sound records with one listing have one plan
 pub listing-says-plan : (r s : Record) → Good r → Good s → listingText (r .plan) ≡ listingText (s .plan) → r .plan ≡ s .plan
 listing-says-plan = record-determined
+
+-- and lists that are taken, with one listing, are one list
+pub listing-says-list : (m n : ℕ) (xs ys : List ℕ) → Taken m xs → Taken n ys
+    → listingText (planOf m xs .plan) ≡ listingText (planOf n ys .plan) → (m ≡ n) × (xs ≡ ys)
+listing-says-list = says-table
 
 -- the table that the host hands in as bytes, eight for a task; task k, counted from 0
 module _ (bytes : List ℕ) (whole : length bytes % 8 ≡ 0) where
@@ -202,17 +195,25 @@ refused-task = with-task
 pub refused-line : (line : ℕ) → refusalText (refusal 16 line) ≡ ascii "refused 16 line " ++ decimalOf line ++ ascii "\n"
 refused-line = with-line
 
--- what the program writes for a text, into a buffer with room for any listing
+-- a text s: its reading is refused by 16, naming a line, exactly if it can't be read there, and then no lent number changes
+module _ (s : List ℕ) (line : ℕ) where
+  pub reading-16 : (readingRefusal (answerOf (textOf s)) ≡ refusal 16 line) ↔ (textOf s ≡ unreadable line)
+  reading-16 = reading (textOf s) line
+
+  pub reading-refused : (table : List ℕ) → textOf s ≡ unreadable line → sets table 0 (tableSaid (textOf s)) ≡ table
+  reading-refused = unread-kept (textOf s) line
+
+-- what the program writes for it, into a buffer with room for any listing
 module _ (room : ℕ) (enough : 15960 ≤ room) (s : List ℕ) where
   -- 16 first, naming a line, exactly if the text can't be read there
   pub program-16 : (line : ℕ) → (answerText room s ≡ refusalText (refusal 16 line)) ↔ (textOf s ≡ unreadable line)
   program-16 = first-16 room enough s
 
-  -- then planning's, each of 1 to 6 exactly if it is given for what the text says
+  -- then planning's: each of 1 to 6, naming a task, exactly if the text says a list for which it is given
   pub program-planning : (n i : ℕ) → 0 < n → n ≤ 6
       → (answerText room s ≡ refusalText (refusal n i)) ↔ ((m : ℕ) × (xs : List ℕ) × (textOf s ≡ says m xs) × Given m xs n i)
   program-planning = then-planning room enough s
 
-  -- else the listing
-  pub program-listed : (m : ℕ) (xs : List ℕ) → textOf s ≡ says m xs → Taken m xs → answerText room s ≡ listingText (planOf m xs .plan)
-  program-listed m xs e t = text-listed room s m xs e enough (exactly-taken m xs .1 t)
+  -- else the listing: that of a list that is taken, exactly if the text says that list
+  pub program-listed : (m : ℕ) (xs : List ℕ) → Taken m xs → (answerText room s ≡ listingText (planOf m xs .plan)) ↔ (textOf s ≡ says m xs)
+  program-listed = else-listed room enough s

@@ -7,5 +7,6 @@ pub mod Bytes
 pub mod HostLists
 pub mod Refused
 pub mod RefusalLines
+pub mod SaysTable
 pub mod Program
 pub mod Lent

@@ -5,17 +5,27 @@ use mathlib.Core.Logic.{_↔_}
 use mathlib.Core.Bool.{Bool, true, false, cond}
 use mathlib.Core.List.{List, _++_}
 use native.Mathlib.Omega.{arith}
-use lib.Dec.{leb}
+use lib.Dec.{leb, eqb}
 use lib.ListN.{length, drop}
-use borrow.Author.Tests.{leb-true, leb-false}
+use borrow.Author.Tests.{leb-true, leb-false, eqb-true, eq-eqb}
 use Rattle.lists.specs.Lists.{bit}
 use Rattle.lists.proofs.Tests.{by-cases}
-use Rattle.units.specs.Refusals.{refusal, taken}
+use Rattle.units.specs.Refusals.{refusal}
 use Rattle.units.specs.declared.refusal.Refusal.{Refusal}
+use Rattle.admission.specs.Admission.{planRefusal}
+use Rattle.admission.specs.Given.{Taken}
+use Rattle.admission.proofs.Exactly.{exactly-taken}
 use Rattle.planning.specs.declared.Plan.{Plan}
 use Rattle.listing.specs.declared.listed.Listed.{Listed}
 use Rattle.listing.specs.Listing.{listingText}
 use Rattle.listing.specs.Listed.{unlisted, listedWhole, planListed, planAfter}
+
+-- none of 1 to 6 applies, as planning tests it
+pub is-taken : (m : ℕ) (xs : List ℕ) → (eqb (planRefusal m xs .no) 0 ≡ true) ↔ Taken m xs
+is-taken m xs = (
+  λ e. exactly-taken m xs .0 (eqb-true (planRefusal m xs .no) 0 e),
+  λ t. eq-eqb (planRefusal m xs .no) 0 (exactly-taken m xs .1 t),
+)
 
 -- the test passed or not, the refusal where it did not, the plan to be listed and the buffer
 module _ (b : Bool) (a : Refusal) (pl : Plan) (buf : List ℕ) where

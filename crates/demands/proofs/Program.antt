@@ -1,31 +1,48 @@
 -- What the program writes, told back: 16 with its line, planning's refusals, or the listing.
 use Prim.Native.Nat.{ℕ, _≤_, _<_}
-use mathlib.Core.Path.{_≡_, refl, sym, ap, _∙_}
+use mathlib.Core.Path.{_≡_, refl, sym, ap, ap₂, _∙_}
 use mathlib.Core.Logic.{_↔_}
 use mathlib.Core.List.{List, head-eq-of-cons-eq}
 use native.Mathlib.Omega.{arith}
 use lib.Dec.{eqb}
+use lib.Seq.{sets}
 use borrow.Author.Tests.{eqb-true, eqb-false}
 use Rattle.lists.proofs.Tests.{by-cases}
 use Rattle.units.specs.Refusals.{refusal}
 use Rattle.units.specs.declared.refusal.Refusal.{Refusal}
 use Rattle.writing.specs.Refused.{refusalText}
 use Rattle.admission.specs.Admission.{planRefusal}
-use Rattle.admission.specs.Given.{Given}
+use Rattle.admission.specs.Given.{Given, Taken}
+use Rattle.admission.proofs.Exactly.{exactly-taken}
 use Rattle.admission.proofs.FirstThatApplies.{given, numbers}
 use Rattle.planning.specs.declared.Plan.{Plan}
 use Rattle.planning.specs.Plan.{planOf}
 use Rattle.listing.specs.Listing.{listingText}
 use Rattle.listing.specs.Listed.{listingLimit}
-use Rattle.table_text.specs.Text.{Said, says, unreadable, textOf}
+use Rattle.table_text.specs.Text.{Said, says, unreadable, textOf, tableSaid, answerOf, readingRefusal}
 use Rattle.plan_answer.specs.Answer.{answerText}
 use Rattle.plan_answer.proofs.Words.{unread, refused, listed}
 use Rattle.demands.proofs.RefusalLines.{line-says}
+use Rattle.demands.proofs.SaysTable.{says-table}
 
 -- a listing is no refusal's line
 not-a-line : (pl : Plan) (r : Refusal) → listingText pl ≡ refusalText r → ⊥
 unfolding listingText refusalText
 not-a-line pl r e = omega (arith, head-eq-of-cons-eq e)
+
+-- a reading is refused by 16 exactly if the text can't be read
+pub reading : (w : Said) (line : ℕ) → (readingRefusal (answerOf w) ≡ refusal 16 line) ↔ (w ≡ unreadable line)
+unfolding answerOf
+reading w line = (to w, ap (λ (x : Said). readingRefusal (answerOf x)))
+  where
+    to : (x : Said) → readingRefusal (answerOf x) ≡ refusal 16 line → x ≡ unreadable line
+    to (says m xs) e = absurd (omega (arith, ap (λ (r : Refusal). r .no) e))
+    to (unreadable k) e = ap (λ (r : Refusal). unreadable (r .named)) e
+
+-- and then no number is stored
+pub unread-kept : (w : Said) (line : ℕ) (table : List ℕ) → w ≡ unreadable line → sets table 0 (tableSaid w) ≡ table
+unfolding tableSaid
+unread-kept w line table e = rw e
 
 module _ (room : ℕ) (enough : listingLimit ≤ room) (s : List ℕ) where
   -- the three cases
@@ -68,3 +85,12 @@ module _ (room : ℕ) (enough : listingLimit ≤ room) (s : List ℕ) where
       back (m, xs, t, g) =
           let e = given m xs n i .1 g in
           refused room s m xs t (λ z. omega (arith, some, ap (λ (r : Refusal). r .no) e, z)) ∙ ap refusalText e
+
+  -- else the listing
+  pub else-listed : (m : ℕ) (xs : List ℕ) → Taken m xs → (answerText room s ≡ listingText (planOf m xs .plan)) ↔ (textOf s ≡ says m xs)
+  else-listed m xs g = (to case, λ t. listed room s m xs t enough (exactly-taken m xs .1 g))
+    where
+      to : Case → answerText room s ≡ listingText (planOf m xs .plan) → textOf s ≡ says m xs
+      to (as-16 l t x) e = absurd (not-a-line (planOf m xs .plan) (refusal 16 l) (sym e ∙ x))
+      to (as-refused n ys t h x) e = absurd (not-a-line (planOf m xs .plan) (planRefusal n ys) (sym e ∙ x))
+      to (as-listed n ys t z x) e = let same = says-table n m ys xs (exactly-taken n ys .0 z) g (sym x ∙ e) in t ∙ ap₂ says (same .0) (same .1)
