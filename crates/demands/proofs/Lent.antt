@@ -34,7 +34,7 @@ use Rattle.host.specs.Host.{tableIn, admitOf, hostListed, hostAfter}
 use Rattle.demands.proofs.Lists.{is-taken, first, then-14, none, refused, accepted}
 use Rattle.demands.proofs.Bytes.{table-out, tasks-are, cost-is, period-is}
 use Rattle.demands.proofs.HostLists.{admitted, first as answered-first, then-14 as answered-14, the-length as answered-length, refused as answered-refused, accepted as answered-accepted}
-use Rattle.demands.proofs.Refused.{fresh-unsound}
+use Rattle.demands.proofs.EmptyListed.{fresh-unsound}
 use Rattle.demands.proofs.RefusalLines.{alone, with-task, with-line}
 use Rattle.demands.proofs.Program.{reading, unread-kept, first-16, then-planning, else-listed}
 use Rattle.demands.proofs.SaysTable.{says-table}

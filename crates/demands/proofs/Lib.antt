@@ -5,7 +5,7 @@ pub mod Demand3
 pub mod Lists
 pub mod Bytes
 pub mod HostLists
-pub mod Refused
+pub mod EmptyListed
 pub mod RefusalLines
 pub mod SaysTable
 pub mod Program

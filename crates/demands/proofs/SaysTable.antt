@@ -8,7 +8,6 @@ use lib.ListN.{length, getD}
 use lib.Seq.{ext-getD}
 use borrow.Author.Tests.{eqb-true, eqb-false}
 use Rattle.lists.proofs.Tests.{by-cases}
-use Rattle.units.specs.Limits.{tasksLimit}
 use Rattle.admission.specs.Admission.{planRefusal}
 use Rattle.admission.specs.Weight.{padded}
 use Rattle.admission.specs.Words.{tasks, cost, period, commonOf, weightsOf}
