@@ -3,7 +3,7 @@ use Prim.Native.Nat.{ℕ, _+_, _*_, _/_, _%_, _≤_, _<_}
 use mathlib.Core.Path.{_≡_, refl, sym, ap, _∙_}
 use mathlib.Core.Logic.{_⊎_, _↔_}
 use mathlib.Core.Bool.{true, false}
-use mathlib.Core.List.{List, _++_}
+use mathlib.Core.List.{List, [], _∷_, _++_}
 use native.Mathlib.Omega.{arith}
 use lib.Dec.{eqb}
 use lib.IntN.{pos, negℤ}
@@ -26,6 +26,7 @@ use Rattle.writing.specs.Decimal.{decimalOf}
 use Rattle.writing.specs.Refused.{refusalText}
 use Rattle.listing.specs.Listing.{listingText}
 use Rattle.listing.specs.Listed.{listedOf, bufferAfter, tableListed, tableAfter}
+use Rattle.listing.proofs.Example.{listing as listing01}
 use Rattle.listing.proofs.TableFits.{taken-length}
 use Rattle.listing.proofs.Listing.{record-determined}
 use Rattle.table_text.specs.Text.{says, unreadable, textOf, tableSaid, answerOf, readingRefusal}
@@ -112,6 +113,17 @@ module _ (m : ℕ) (xs buf : List ℕ) where
       × (tableAfter m xs buf ≡ listingText (planOf m xs .plan) ++ drop (length (listingText (planOf m xs .plan))) buf)
   unfolding tableListed tableAfter
   table-listed = accepted (eqb (planRefusal m xs .no) 0) (planRefusal m xs) (planOf m xs .plan) buf (eqb-false (planRefusal m xs .no) 0)
+
+-- document 01's own listing: M = 4 and tasks 5 6, 4 6, 2 3, 2 3, 2 3, 1 2
+pub own-listing : listingText (planOf 4 (5 ∷ 6 ∷ 4 ∷ 6 ∷ 2 ∷ 3 ∷ 2 ∷ 3 ∷ 2 ∷ 3 ∷ 1 ∷ 2 ∷ []) .plan) ≡
+    ascii "cores 4 common 6\n"
+    ++ ascii "task 1 cost 5 period 6 weight 5 fixed 1:5 late 6\n"
+    ++ ascii "task 2 cost 4 period 6 weight 4 fixed 2:4 late 9\n"
+    ++ ascii "task 3 cost 2 period 3 weight 4 fixed 3:4 late 13\n"
+    ++ ascii "task 4 cost 2 period 3 weight 4 fixed 4:4 late 8\n"
+    ++ ascii "task 5 cost 2 period 3 weight 4 moves 1:1 2:2 3:1 late -1\n"
+    ++ ascii "task 6 cost 1 period 2 weight 3 moves 3:1 4:2 late 5\n"
+own-listing = listing01
 
 -- what is listed can be told back: sound records with one listing have one plan
 pub listing-says-plan : (r s : Record) → Good r → Good s → listingText (r .plan) ≡ listingText (s .plan) → r .plan ≡ s .plan
