@@ -1,4 +1,5 @@
 -- Lent bytes: what a listing answers and leaves in a lent buffer, of a record, of a table and for the host, and what the program writes.
+-- The contracts of `list`, `list_table`, `yagomila_admit`, `yagomila_listing`, `read_text` and `answer` name these definitions.
 use Prim.Native.Nat.{ℕ, _+_, _*_, _/_, _%_, _≤_, _<_}
 use mathlib.Core.Path.{_≡_, refl, sym, ap, _∙_}
 use mathlib.Core.Logic.{_⊎_, _↔_}
@@ -215,7 +216,7 @@ module _ (s : List ℕ) (line : ℕ) where
   pub reading-refused : (table : List ℕ) → textOf s ≡ unreadable line → sets table 0 (tableSaid (textOf s)) ≡ table
   reading-refused = unread-kept (textOf s) line
 
--- what the program writes for it, into a buffer with room for any listing
+-- what the program writes for it, into a buffer with room for any listing; the program's has 16,384 bytes
 module _ (room : ℕ) (enough : 15960 ≤ room) (s : List ℕ) where
   -- 16 first, naming a line, exactly if the text can't be read there
   pub program-16 : (line : ℕ) → (answerText room s ≡ refusalText (refusal 16 line)) ↔ (textOf s ≡ unreadable line)
