@@ -8,6 +8,12 @@ pub mod PlanSound
 pub mod SoundState
 pub mod SoundClauses
 pub mod Sound
-pub mod Sixteen
 pub mod TextForms
 pub mod Text
+pub mod Lists
+pub mod Bytes
+pub mod HostLists
+pub mod RefusalLines
+pub mod SaysTable
+pub mod Program
+pub mod Lent

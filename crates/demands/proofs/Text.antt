@@ -1,22 +1,18 @@
--- The program's text, document 01, "Listing and text": what a text says, or the line that is named, and refusal 16 with that line.
+-- The program's text, document 01, "Listing and text": what a text says, or the line that is named.
 use Prim.Native.Nat.{ℕ, _+_, _*_, _%_, _≤_, _<_}
 use mathlib.Core.Path.{_≡_, refl, sym, ap, _∙_}
 use mathlib.Core.Logic.{_↔_, _⊎_}
 use mathlib.Core.List.{List, [], _∷_, _++_}
 use lib.ListN.{length, getD}
-use Rattle.writing.specs.Ascii.{ascii, blank, newline}
+use Rattle.writing.specs.Ascii.{blank, newline}
 use Rattle.writing.specs.Decimal.{decimalOf}
 use Rattle.writing.specs.Value.{valueOf, Plain}
 use Rattle.writing.proofs.Back.{value-back}
 use Rattle.writing.proofs.Plain.{decimal-plain, plain-back}
 use Rattle.table_text.specs.Text.{Said, says, unreadable, textOf}
 use Rattle.table_text.specs.Grammar.{coresWritten, tasksWritten, Starts, NoCores, NoTask, Says}
-use Rattle.table_text.proofs.ByForm.{reads}
 use Rattle.table_text.proofs.EveryText.{said-exactly}
-use Rattle.planning.specs.Plan.{planOf}
-use Rattle.plan_answer.specs.Answer.{plannedText, saidText, programText}
 use Rattle.demands.proofs.TextForms.{says-table, names-0, names-1, names-later}
-use Rattle.demands.proofs.Sixteen.{written, only-unreadable}
 
 -- a blank and a newline as bytes
 pub bytes : (blank ≡ 32) × (newline ≡ 10)
@@ -53,16 +49,3 @@ module _ (s : List ℕ) where
       (length s ≤ 4096)
       × ((m : ℕ) × (xs : List ℕ) × (rest : List ℕ) × Starts s m xs rest × (length xs ≡ 2 * k) × (0 < length rest) × NoTask rest))
   line-later-exactly = names-later s
-
-  -- the program refuses by 16, naming that line, exactly if the text names it
-  pub refused-16-exactly : (line : ℕ) → (programText s ≡ ascii "refused 16 line " ++ decimalOf line ++ newline ∷ []) ↔ Says s (unreadable line)
-  unfolding programText
-  refused-16-exactly line = (
-    λ e. said-exactly s (unreadable line) .0 (only-unreadable (textOf s) line e),
-    λ h. ap saidText (reads s h) ∙ written line,
-  )
-
-  -- and else answers what planning does
-  pub planned-otherwise : (m : ℕ) (xs : List ℕ) → Says s (says m xs) → programText s ≡ plannedText (planOf m xs)
-  unfolding programText saidText
-  planned-otherwise m xs h = rw (reads s h)

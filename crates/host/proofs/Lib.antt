@@ -2,5 +2,4 @@ pub mod Numbers
 pub mod Held
 pub mod Out
 pub mod Answers
-pub mod Words
 pub mod Examples

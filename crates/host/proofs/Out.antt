@@ -13,7 +13,6 @@ use Rattle.admission.specs.Admission.{planRefusal}
 use Rattle.admission.specs.Words.{CoresIn, CoresOut, TableOut}
 use Rattle.admission.specs.Given.{one, two}
 use Rattle.admission.proofs.Gives.{gives-no}
-use Rattle.host.specs.Words.{OneOrTwo}
 
 -- a core count is out of range or in it
 cores : (m : ℕ) → CoresOut m ⊎ CoresIn m
@@ -24,8 +23,8 @@ cores m =
     (λ h. inl (inr (ltb-true coresLimit m h)))
     (λ h. inr (pos-of-ne-zero (eqb-false m 0 e), ltb-false coresLimit m h)))
 
--- such a table is refused so
-pub out : (m : ℕ) (xs : List ℕ) → TableOut xs → OneOrTwo m (planRefusal m xs .no)
+-- such a table is refused by 1 where the core count is out of range, else by 2
+out : (m : ℕ) (xs : List ℕ) → TableOut xs → (CoresOut m → planRefusal m xs .no ≡ 1) × (CoresIn m → planRefusal m xs .no ≡ 2)
 out m xs o = (λ c. gives-no m xs (one c), λ c. gives-no m xs (two c o))
 
 -- two such tables are refused by the same number

@@ -18,7 +18,7 @@ use Rattle.listing.specs.Listing.{listingText}
 use Rattle.listing.proofs.TableFits.{table-length}
 use Rattle.listing.specs.Listed.{listingLimit, planListed, planAfter, tableListed, tableAfter}
 use Rattle.table_text.specs.Text.{says, unreadable, textOf}
-use Rattle.plan_answer.specs.Answer.{tableText, saidIn, answerText}
+use Rattle.plan_answer.specs.Answer.{tableText, saidText, answerText}
 
 module _ (m : ℕ) (xs a : List ℕ) where
   -- a refused table has changed no byte
@@ -67,10 +67,10 @@ module _ (m : ℕ) (xs a : List ℕ) {l : Listed} {b : List ℕ} (e : l ≡ tabl
 module _ (room : ℕ) (s : List ℕ) where
   -- an unreadable text
   pub text-unreadable : {line : ℕ} → textOf s ≡ unreadable line → refusalText (refusal textNo line) ≡ answerText room s
-  unfolding answerText saidIn
+  unfolding answerText saidText
   text-unreadable e = rw e refl
 
   -- a readable one
   pub text-read : {m : ℕ} {xs : List ℕ} → textOf s ≡ says m xs → tableText room m xs ≡ answerText room s
-  unfolding answerText saidIn
+  unfolding answerText saidText
   text-read e = rw e refl

@@ -4,6 +4,8 @@ use mathlib.Core.Bool.{cond}
 use mathlib.Core.List.{List, [], _∷_}
 use lib.Dec.{ltb, eqb}
 use lib.ListN.{length}
+use Rattle.units.specs.declared.refusal.Refusal.{Refusal}
+use Rattle.units.specs.Refusals.{refusal, taken, textNo}
 use Rattle.writing.specs.Ascii.{newline}
 use Rattle.scanning.specs.Line.{fieldAt, pairAt}
 use Rattle.scanning.specs.Lines.{pairEnd, unreadableFrom}
@@ -78,3 +80,8 @@ tableSaid (unreadable line) = []
 unfoldable pub answerOf : Said → Reading
 answerOf (says m xs) = Read m (length xs)
 answerOf (unreadable line) = Unreadable line
+
+-- the refusal that an answer is: none, or 16, naming the line
+abbrev pub readingRefusal : Reading → Refusal
+readingRefusal (Read m n) = taken
+readingRefusal (Unreadable line) = refusal textNo line
