@@ -1,11 +1,9 @@
 -- Pass one in the words of document 01: a core's load is what it has given, its room the rest of its l units.
 use Prim.Native.Nat.{ℕ, suc, _+_, _-_, _≤_}
 use mathlib.Core.Bool.{Bool, true, _&&_, cond}
-use mathlib.Core.List.{List, [], _∷_, _++_, map}
+use mathlib.Core.List.{List, [], _∷_, map}
 use lib.Dec.{leb}
-use lib.ListN.{getD, set, replicate}
-use Rattle.units.specs.Limits.{coresLimit}
-use Rattle.lists.specs.Lists.{zeros}
+use lib.ListN.{getD, set}
 use Rattle.assignment.specs.Passes.{whole, passTwo}
 
 -- the room beside each load
@@ -33,7 +31,3 @@ byLoad l (w ∷ ws) loads =
     cond (leb (getD loads (atLeast loads) 0 + w) l)
     (whole w (atLeast loads) loads ∷ byLoad l ws (set loads (atLeast loads) (getD loads (atLeast loads) 0 + w)))
     (passTwo 0 (w ∷ ws) (roomOf l loads))
-
--- the loads at the start: m cores have none, the others are full
-abbrev pub loadsOf : ℕ → ℕ → List ℕ
-loadsOf m l = zeros m ++ replicate (coresLimit - m) l
