@@ -11,7 +11,11 @@ use Rattle.lists.specs.Lists.{most, atMost}
 use Rattle.lists.proofs.Tests.{by-cases, same-bool, and-left, and-right, and-true}
 use Rattle.lists.proofs.Lists.{atMost-is, atMost-lt}
 use Rattle.assignment.specs.Passes.{whole, less, passes}
-use Rattle.assignment.specs.Load.{roomOf, Within, noneBelow, atLeast, byLoad}
+use Rattle.assignment.specs.Load.{roomOf, noneBelow, atLeast, byLoad}
+
+-- no load exceeds l
+abbrev pub Within : ℕ → List ℕ → Type 0
+Within l loads = (p : ℕ) → getD loads p 0 ≤ l
 
 -- a task of weight w fits in the room beside a load x
 pub fits-beside : (l x w : ℕ) → x ≤ l → leb w (l - x) ≡ leb (x + w) l

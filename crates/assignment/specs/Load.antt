@@ -1,5 +1,5 @@
 -- Pass one in the words of document 01: a core's load is what it has given, its room the rest of its l units.
-use Prim.Native.Nat.{ℕ, suc, _+_, _-_, _≤_}
+use Prim.Native.Nat.{ℕ, suc, _+_, _-_}
 use mathlib.Core.Bool.{Bool, true, _&&_, cond}
 use mathlib.Core.List.{List, [], _∷_, map}
 use lib.Dec.{leb}
@@ -9,10 +9,6 @@ use Rattle.assignment.specs.Passes.{whole, passTwo}
 -- the room beside each load
 abbrev pub roomOf : ℕ → List ℕ → List ℕ
 roomOf l loads = map (λ (x : ℕ). l - x) loads
-
--- no load exceeds l
-abbrev pub Within : ℕ → List ℕ → Type 0
-Within l loads = (p : ℕ) → getD loads p 0 ≤ l
 
 -- no number is below x
 abbrev pub noneBelow : ℕ → List ℕ → Bool

@@ -1,13 +1,13 @@
 -- Each bound of a plan that keeps what a plan has to keep is document 01's formula, over the bounds that are listed.
-use Prim.Native.Nat.{ℕ, zero, suc, _+_, _*_, _-_, _≤_, _<_}
+use Prim.Native.Nat.{ℕ, zero, suc, _+_, _*_, _-_, _<_}
 use mathlib.Core.Path.{_≡_, refl, sym, ap, ap₂, _∙_}
 use mathlib.Core.Bool.{true, false}
 use mathlib.Core.List.{List, [], _∷_, map}
 use native.Mathlib.Omega.{arith}
 use lib.ListN.{length, getD, List·getD-map}
 use lib.IntN.{ℤ, pos, subℕ, natAbs, _+ℤ_}
-use borrow.Author.Tests.{ltb-true, eqb-true, le-ltb}
-use Rattle.units.specs.Limits.{coresLimit, tasksLimit}
+use borrow.Author.Tests.{eqb-true, le-ltb}
+use Rattle.units.specs.Limits.{tasksLimit}
 use Rattle.lists.specs.Lists.{parts, seek}
 use Rattle.arith.specs.Ceiling.{ceilDiv}
 use Rattle.lists.proofs.Tests.{and-left}
@@ -18,8 +18,8 @@ use Rattle.planning.specs.declared.Line.{Line}
 use Rattle.planning.specs.declared.Plan.{Plan}
 use Rattle.planning.specs.Plan.{noLine, rowOf}
 use Rattle.planning.specs.Kept.{PlanKept}
-use Rattle.lateness.specs.Lateness.{upperOn, shareOn, reachOf, push, reachOn, planReaches, overMovers, fixedLate, late, latesOf}
-use Rattle.lateness.specs.Words.{lineOf, boundOf, twoPast, sumOn, MoverBound, FixedBound}
+use Rattle.lateness.specs.Lateness.{upperOn, shareOn, reachOf, push, reachOn, planReaches, fixedLate, late, latesOf}
+use Rattle.lateness.specs.Words.{lineOf, boundOf, twoPast, MoverBound, FixedBound}
 use Rattle.lateness.proofs.Words.{reach-says, fixed-alone}
 use Rattle.lateness.proofs.Tasks.{getD-map-in}
 use Rattle.lateness.proofs.Formulas.{first-seek, line-there, mover-late, mover-alone}

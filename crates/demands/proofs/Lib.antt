@@ -4,6 +4,7 @@ pub mod CoresInUse
 pub mod AtPlace
 pub mod OrderKept
 pub mod PlanLines
+pub mod TakenPlan
 pub mod SumOn
 pub mod Bounds
 pub mod Demand2

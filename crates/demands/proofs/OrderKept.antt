@@ -11,8 +11,8 @@ use Rattle.lists.proofs.Lists.{atMost-lt, most-some, parts-most, parts-cons}
 use Rattle.lists.proofs.Tests.{by-cases}
 use Rattle.lists.proofs.Filled.{default-after}
 use Rattle.admission.proofs.Padded.{most-zeros}
-use Rattle.ordering.specs.Order.{goesBefore, places, placeOf, pickedWeights, inOrder}
-use Rattle.ordering.proofs.Picks.{left-parts, inOrder-length, place-order, inOrder-at}
+use Rattle.ordering.specs.Order.{goesBefore, places, placeOf, pickedWeights, order, inOrder}
+use Rattle.ordering.proofs.Picks.{left-parts, inOrder-length, order-place, place-order, inOrder-at}
 use Rattle.demands.proofs.ZerosAfter.{atMost-zeros, parts-zeros, set-zeros}
 
 module _ (k : ℕ) where
@@ -55,19 +55,28 @@ place-zeros k ws i h =
     let n : length (ws ++ zeros k) ≡ k + length ws = omega (arith, length-append ws (zeros k), length-replicate {A = ℕ} k 0) in
     rw n (places-zeros k (k + length ws) ws i ∙ places-past (k + length ws) ws i (omega arith) h)
 
--- where each task has a weight
-module _ (ws : List ℕ) (some : (k : ℕ) → k < length ws → 0 < getD ws k 0) where
-  -- all are in the order
-  all-parts : (vs : List ℕ) → ((k : ℕ) → k < length vs → 0 < getD vs k 0) → parts vs ≡ length vs
-  all-parts [] h = refl
-  all-parts (v ∷ vs) h = omega (arith, parts-cons v vs, ap bit (lt-ltb 0 v (h 0 (omega arith))), all-parts vs (λ k l. h (suc k) (omega arith)))
+-- if every number is positive, as many are
+all-parts : (ws : List ℕ) → ((k : ℕ) → k < length ws → 0 < getD ws k 0) → parts ws ≡ length ws
+all-parts [] h = refl
+all-parts (w ∷ ws) h = omega (arith, parts-cons w ws, ap bit (lt-ltb 0 w (h 0 (omega arith))), all-parts ws (λ k l. h (suc k) (omega arith)))
 
-  -- as many weights as tasks
-  pub order-whole : length (inOrder ws) ≡ length ws
-  order-whole = inOrder-length ws ∙ all-parts ws some
+-- n tasks that each have a weight
+module _ (ws : List ℕ) (n : ℕ) (long : length ws ≡ n) (some : (k : ℕ) → k < n → 0 < getD ws k 0) where
+  all-have : parts ws ≡ n
+  all-have = all-parts ws (λ k h. some k (omega arith)) ∙ long
+
+  -- as many weights in order
+  pub order-whole : length (inOrder ws) ≡ n
+  order-whole = inOrder-length ws ∙ all-have
 
   -- each at its task's place
-  pub weight-at-place : (k : ℕ) → k < length ws → (placeOf ws k < length ws) × (getD (inOrder ws) (placeOf ws k) 0 ≡ getD ws k 0)
+  pub weight-at-place : (k : ℕ) → k < n → (placeOf ws k < n) × (getD (inOrder ws) (placeOf ws k) 0 ≡ getD ws k 0)
   weight-at-place k h =
       let p = place-order ws k (some k h) in
-      (omega (arith, p .0, all-parts ws some), inOrder-at ws (placeOf ws k) (p .0) ∙ ap (λ (j : ℕ). getD ws j 0) (p .1))
+      (omega (arith, p .0, all-have), inOrder-at ws (placeOf ws k) (p .0) ∙ ap (λ (j : ℕ). getD ws j 0) (p .1))
+
+  -- each place is a task's
+  pub task-at-place : (p : ℕ) → p < n → (k : ℕ) × (k < n) × (placeOf ws k ≡ p)
+  task-at-place p h =
+      let o = order-place ws p (omega (arith, all-have)) in
+      (getD (order ws) p 0, omega (arith, o .0), o .2)

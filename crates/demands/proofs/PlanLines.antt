@@ -17,7 +17,6 @@ use Rattle.assignment.specs.Passes.{passes, sharesOf, rooms}
 use Rattle.assignment.specs.Load.{byLoad}
 use Rattle.assignment.proofs.Placed.{placed-length}
 use Rattle.assignment.proofs.Shape.{passes-length}
-use Rattle.planning.specs.declared.Line.{Line}
 use Rattle.planning.specs.Plan.{line, noLine, planFor}
 use Rattle.soundness.proofs.Keeps.{Fits}
 use Rattle.soundness.proofs.PlannedLines.{task-line}

@@ -3,9 +3,9 @@ use Prim.Native.Nat.{ℕ, zero, suc, _<_}
 use mathlib.Core.Path.{_≡_, refl, ap}
 use mathlib.Core.List.{List, [], _∷_, _++_}
 use native.Mathlib.Omega.{arith}
-use lib.ListN.{length, set, length-append, length-replicate, replicate-append-replicate}
-use Rattle.lists.specs.Lists.{zeros, most, atMost, parts}
-use Rattle.lists.proofs.Lists.{zeros-most, zeros-parts, parts-cons}
+use lib.ListN.{length, set, length-replicate}
+use Rattle.lists.specs.Lists.{zeros, atMost, parts}
+use Rattle.lists.proofs.Lists.{zeros-most, zeros-parts}
 use Rattle.admission.proofs.Padded.{most-zeros}
 
 -- the first of zeros is the largest
