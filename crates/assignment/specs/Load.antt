@@ -1,4 +1,4 @@
--- Pass one in the words of document 01: a core's load is what it has given, its room the rest of its l units.
+-- The two passes in the words of document 01: a core's load is what it has given, its room the rest of its l units.
 use Prim.Native.Nat.{ℕ, suc, _+_, _-_}
 use mathlib.Core.Bool.{Bool, true, _&&_, cond}
 use mathlib.Core.List.{List, [], _∷_, map}
