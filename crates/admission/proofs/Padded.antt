@@ -15,7 +15,7 @@ sum-zeros [] n = zeros-sum n
 sum-zeros (w ∷ ws) n = omega (arith, sum-zeros ws n)
 
 -- and none is the largest
-most-zeros : (ws : List ℕ) (n : ℕ) → most (ws ++ zeros n) ≡ most ws
+pub most-zeros : (ws : List ℕ) (n : ℕ) → most (ws ++ zeros n) ≡ most ws
 most-zeros [] n = zeros-most n
 most-zeros (w ∷ ws) n = omega (arith, most-zeros ws n)
 

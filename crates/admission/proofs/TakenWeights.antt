@@ -1,4 +1,4 @@
--- The common period and the weights of a table that is taken.
+-- The common period and the weights of a table, and what they are of one that is taken.
 use Prim.Native.Nat.{ℕ, zero, suc, _+_, _*_, _/_, _≤_, _<_, _∣_}
 use mathlib.Core.Path.{_≡_, refl}
 use mathlib.Core.List.{List, [], _∷_}
@@ -44,21 +44,21 @@ common-divides xs n d = common-least (periods xs) n (λ k h. rw (periods-at xs k
 pub common-smallest : (xs : List ℕ) (n : ℕ) → 0 < n → ((k : ℕ) → k < tasks xs → period xs k ∣ n) → commonOf xs ≤ n
 common-smallest xs n h d = le-of-dvd h (common-divides xs n d)
 
+-- the weight is C × L / T with no remainder, whatever the table
+pub weight-exact : (xs : List ℕ) (k : ℕ) → k < tasks xs → weightOf xs k * period xs k ≡ cost xs k * commonOf xs
+weight-exact xs k h =
+    rw (weights-at (commonOf xs) xs k h)
+    (div-mul-cancel (period xs k) (dvd-mul-left-of-dvd (period xs k) (common-multiple xs k h) (cost xs k)))
+
 module _ (m : ℕ) (xs : List ℕ) (t : Taken m xs) where
   -- the common period L: 1 to 1,000,000
   pub common-range : (0 < commonOf xs) × (commonOf xs ≤ commonLimit)
   common-range = (common-pos (periods xs) (periods-some xs (t .ranges)), t .within)
 
-  -- the weight is C × L / T with no remainder
-  pub weight-exact : (k : ℕ) → k < tasks xs → weightOf xs k * period xs k ≡ cost xs k * commonOf xs
-  weight-exact k h =
-      rw (weights-at (commonOf xs) xs k h)
-      (div-mul-cancel (period xs k) (dvd-mul-left-of-dvd (period xs k) (common-multiple xs k h) (cost xs k)))
-
   -- 1 to L
   pub weight-range : (k : ℕ) → k < tasks xs → (0 < weightOf xs k) × (weightOf xs k ≤ commonOf xs)
   weight-range k h =
-      let e = weight-exact k h in
+      let e = weight-exact xs k h in
       let some : 0 < cost xs k * commonOf xs = mul-pos (t .ranges k h .0) (common-range .0) in
       let c : cost xs k * commonOf xs ≤ period xs k * commonOf xs = mul-le-mul-right (commonOf xs) (t .costs k h) in (
         pos-of-ne-zero (λ z. let y : weightOf xs k * period xs k ≡ 0 = rw z (omega arith) in absurd (omega arith)),

@@ -2,17 +2,20 @@
 use Prim.Native.Nat.{ℕ, zero, suc, _+_, _-_, _≤_, _<_, max}
 use mathlib.Core.Path.{_≡_, refl, sym, ap, _∙_}
 use mathlib.Core.Bool.{_&&_}
-use mathlib.Core.List.{List, [], _∷_, _++_}
+use mathlib.Core.List.{List, [], _∷_}
 use native.Mathlib.Omega.{arith}
 use lib.Dec.{leb}
-use lib.ListN.{length, getD, set, replicate, length-map, length-set, length-append, length-replicate}
+use lib.ListN.{length, getD, set, length-map, length-set}
 use borrow.Author.Tests.{leb-true, le-leb}
-use Rattle.lists.specs.Lists.{zeros, most, atMost}
+use Rattle.lists.specs.Lists.{most, atMost}
 use Rattle.lists.proofs.Tests.{by-cases, same-bool, and-left, and-right, and-true}
 use Rattle.lists.proofs.Lists.{atMost-is, atMost-lt}
-use Rattle.units.specs.Limits.{coresLimit}
-use Rattle.assignment.specs.Passes.{whole, less, passes, rooms}
-use Rattle.assignment.specs.Load.{roomOf, Within, noneBelow, atLeast, byLoad, loadsOf}
+use Rattle.assignment.specs.Passes.{whole, less, passes}
+use Rattle.assignment.specs.Load.{roomOf, noneBelow, atLeast, byLoad}
+
+-- no load exceeds l
+abbrev pub Within : ℕ → List ℕ → Type 0
+Within l loads = (p : ℕ) → getD loads p 0 ≤ l
 
 -- a task of weight w fits in the room beside a load x
 pub fits-beside : (l x w : ℕ) → x ≤ l → leb w (l - x) ≡ leb (x + w) l
@@ -75,32 +78,3 @@ by-load l (w ∷ ws) loads h k =
     (λ e. rw e (ap (λ (rs : List (List ℕ)). whole w p loads ∷ rs)
     (by-load l ws (set loads p (x + w)) (omega (arith, length-set loads p (x + w))) (set-within l (x + w) loads p (leb-true (x + w) l e) k))))
     (λ e. rw e))
-
--- a full core has no room
-full-room : (k l : ℕ) → roomOf l (replicate k l) ≡ zeros k
-full-room zero l = refl
-full-room (suc k) l = let e : l - l ≡ 0 = omega arith in λ i. e i ∷ full-room k l i
-
--- an empty one has l
-empty-room : (m l : ℕ) (xs : List ℕ) → roomOf l (zeros m ++ xs) ≡ replicate m l ++ roomOf l xs
-empty-room zero l xs = refl
-empty-room (suc m) l xs = let e : l - 0 ≡ l = omega arith in λ i. e i ∷ empty-room m l xs i
-
--- neither exceeds l
-full-within : (k l : ℕ) → Within l (replicate k l)
-full-within zero l p = omega arith
-full-within (suc k) l zero = omega arith
-full-within (suc k) l (suc p) = full-within k l p
-
-start-within : (m k l : ℕ) → Within l (zeros m ++ replicate k l)
-start-within zero k l p = full-within k l p
-start-within (suc m) k l zero = omega arith
-start-within (suc m) k l (suc p) = start-within m k l p
-
--- the passes of a plan
-pub plan-by-load : (m l : ℕ) (ws : List ℕ) → passes ws (rooms m l) ≡ byLoad l ws (loadsOf m l)
-plan-by-load m l ws =
-    let k : ℕ = coresLimit - m in
-    rw (← full-room k l, ← empty-room m l (replicate k l))
-    (by-load l ws (loadsOf m l) (omega (arith, length-append (zeros m) (replicate k l), length-replicate {A = ℕ} m 0, length-replicate k l))
-    (start-within m k l))

@@ -1,20 +1,14 @@
--- Pass one in the words of document 01: a core's load is what it has given, its room the rest of its l units.
-use Prim.Native.Nat.{ℕ, suc, _+_, _-_, _≤_}
+-- The two passes in the words of document 01: a core's load is what it has given, its room the rest of its l units.
+use Prim.Native.Nat.{ℕ, suc, _+_, _-_}
 use mathlib.Core.Bool.{Bool, true, _&&_, cond}
-use mathlib.Core.List.{List, [], _∷_, _++_, map}
+use mathlib.Core.List.{List, [], _∷_, map}
 use lib.Dec.{leb}
-use lib.ListN.{getD, set, replicate}
-use Rattle.units.specs.Limits.{coresLimit}
-use Rattle.lists.specs.Lists.{zeros}
+use lib.ListN.{getD, set}
 use Rattle.assignment.specs.Passes.{whole, passTwo}
 
 -- the room beside each load
 abbrev pub roomOf : ℕ → List ℕ → List ℕ
 roomOf l loads = map (λ (x : ℕ). l - x) loads
-
--- no load exceeds l
-abbrev pub Within : ℕ → List ℕ → Type 0
-Within l loads = (p : ℕ) → getD loads p 0 ≤ l
 
 -- no number is below x
 abbrev pub noneBelow : ℕ → List ℕ → Bool
@@ -33,7 +27,3 @@ byLoad l (w ∷ ws) loads =
     cond (leb (getD loads (atLeast loads) 0 + w) l)
     (whole w (atLeast loads) loads ∷ byLoad l ws (set loads (atLeast loads) (getD loads (atLeast loads) 0 + w)))
     (passTwo 0 (w ∷ ws) (roomOf l loads))
-
--- the loads at the start: m cores have none, the others are full
-abbrev pub loadsOf : ℕ → ℕ → List ℕ
-loadsOf m l = zeros m ++ replicate (coresLimit - m) l

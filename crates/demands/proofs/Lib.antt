@@ -1,4 +1,12 @@
 pub mod Examples
+pub mod ZerosAfter
+pub mod CoresInUse
+pub mod AtPlace
+pub mod OrderKept
+pub mod PlanLines
+pub mod TakenPlan
+pub mod SumOn
+pub mod Bounds
 pub mod Demand2
 pub mod Demand1
 pub mod Demand3

@@ -41,7 +41,7 @@ module _ (f : List ℕ → Bool) where
       (λ t. rw t (first-none lns (omega (arith, rw t at e))))
 
   -- it is the one that a search finds
-  first-seek : (lns : List Line) → seek f (map rowOf lns) < length lns
+  pub first-seek : (lns : List Line) → seek f (map rowOf lns) < length lns
       → first (λ ln. f (rowOf ln)) lns ≡ getD lns (seek f (map rowOf lns)) noLine
   first-seek [] h = absurd (omega arith)
   first-seek (ln ∷ lns) h =
@@ -83,7 +83,7 @@ module _ (l : ℕ) (lns : List Line) where
       (first-cases (upper p) lns)
 
 -- a mover is one of the lines
-line-there : (lns : List Line) (i : ℕ) → moves (rowOf (getD lns i noLine)) ≡ true → i < length lns
+pub line-there : (lns : List Line) (i : ℕ) → moves (rowOf (getD lns i noLine)) ≡ true → i < length lns
 line-there [] i e = absurd (omega (arith, ltb-true 1 0 e))
 line-there (ln ∷ lns) zero e = omega arith
 line-there (ln ∷ lns) (suc i) e = omega (arith, line-there lns i e)

@@ -69,7 +69,7 @@ periods-small pl k moving periods firsts n i =
     (λ e. omega (arith, List·getD-eq-default periods 0 {n = i} (omega (arith, n .periods .long, ltb-false i tasksLimit e))))
 
 -- what stands at a place of a mapped list
-getD-map-in : {A B : Type 0} (f : A → B) (xs : List A) (i : ℕ) (d : A) (e : B) → i < length xs → getD (map f xs) i e ≡ f (getD xs i d)
+pub getD-map-in : {A B : Type 0} (f : A → B) (xs : List A) (i : ℕ) (d : A) (e : B) → i < length xs → getD (map f xs) i e ≡ f (getD xs i d)
 getD-map-in f [] i d e h = absurd (omega arith)
 getD-map-in f (x ∷ xs) zero d e h = refl
 getD-map-in f (x ∷ xs) (suc i) d e h = getD-map-in f xs i d e (omega arith)
