@@ -12,7 +12,7 @@ use Rattle.lists.specs.Lists.{zeros}
 use Rattle.units.specs.Units.{ticks}
 use Rattle.units.specs.Refusals.{refusal}
 use Rattle.units.specs.declared.ticks.Ticks.{Ticks}
-use Rattle.planning.specs.Plan.{line, emptyLine, emptyPlan, planOf}
+use Rattle.planning.specs.Plan.{line, emptyLine, emptyPlan}
 use Rattle.planning.specs.Tasks.{taskLine, taskWeight, taskShares}
 use Rattle.task_state.specs.declared.State.{State}
 use Rattle.task_state.specs.State.{run, runAt, runsOf, freshState, noState}
@@ -191,6 +191,5 @@ module _ (m : ℕ) (xs : List ℕ) where
     never-unsound c = never-15 fresh cs c (started m xs ok)
 
     -- and the plan stays as it was drawn
-    pub plan-stays : after fresh cs .plan ≡ planOf m xs .plan
-    unfolding freshOf recordOf
+    pub plan-stays : after fresh cs .plan ≡ fresh .plan
     plan-stays = plan-same fresh cs

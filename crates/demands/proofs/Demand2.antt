@@ -124,7 +124,7 @@ module _ (m : ℕ) (xs : List ℕ) (ok : freshOf m xs .refusal .no ≡ 0) where
       → rowOf (lineOf plan k) ≡ getD (byLoad (commonOf xs) (inOrder (weightsOf xs)) (zeros m)) (placeOf (weightsOf xs) k) [] ++ zeros (16 - m)
   shares-are k h = ap rowOf (line-of m xs ok k h) ∙ nums-units (rowAtPlace m xs k ++ zeros (16 - m))
 
-  -- the list is placed whole, and its plan placed-whole what a plan must
+  -- the list is placed whole, and its plan keeps what a plan must
   pub placed-whole : PlanKept plan
   placed-whole = keeps m xs ok
 
