@@ -6,5 +6,6 @@ pub mod Behind
 pub mod Pace
 pub mod Cycle
 pub mod Fair
+pub mod SincePlan
 pub mod Keeps
 pub mod Turns
