@@ -48,12 +48,12 @@ module _ (w : ℕ) (ss : List ℕ) (pos : 0 < w) (shares : total ss ≡ w) (long
       let turnAfter = near (a + c) p in
       (omega arith, omega arith)
 
-  -- of w runs exactly its share
-  pub whole : (p : ℕ) → sent w ss (suc p) w ≡ getD ss p 0
-  whole p =
-      let n = near w p in
-      let high : sent w ss (suc p) w < getD ss p 0 + 1 = lt-of-mul-lt-mul-right w (omega arith) in
-      let low : getD ss p 0 < sent w ss (suc p) w + 1 = lt-of-mul-lt-mul-right w (omega arith) in
+  -- of w runs exactly its share, and so of any number of cycles
+  pub whole : (q p : ℕ) → sent w ss (suc p) (q * w) ≡ q * getD ss p 0
+  whole q p =
+      let n = near (q * w) p in
+      let high : sent w ss (suc p) (q * w) < q * getD ss p 0 + 1 = lt-of-mul-lt-mul-right w (omega arith) in
+      let low : q * getD ss p 0 < sent w ss (suc p) (q * w) + 1 = lt-of-mul-lt-mul-right w (omega arith) in
       omega arith
 
   -- the core of a run is the one that the search picks with the counts of its cycle

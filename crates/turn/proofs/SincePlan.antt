@@ -58,7 +58,8 @@ since-plan w ss pos shares long c s n share runs =
     let a = state w ss pos shares long c in
     let x = run-picked w ss pos shares long c in
     rw (x .1)
-    (picked-goes w (turnAfter w ss c .place) (a .cycles) c ss (turnAfter w ss c .counts) s n (a .number) share (λ i. runs i ∙ a .runs i) coresLimit (x .0) (x .2))
+    (picked-goes w (turnAfter w ss c .place) (a .cycles) c ss (turnAfter w ss c .counts) s n (a .number) share (λ i. runs i ∙ a .runs i)
+    coresLimit (x .0) (x .2))
 
 -- it is the one of the first k cores too, if it is among them
 pub goes-among : (w t : ℕ) (s n : ℕ → ℕ) (m k p : ℕ) → k ≤ m → p ≤ k → RunGoesTo w t s n m p → RunGoesTo w t s n k p

@@ -1,4 +1,4 @@
--- Which core a run goes to, in the words of document 01: of a task of weight w with share s p on core p, where n p of the t runs before this one went to core p.
+-- Which core a run goes to, in the words of document 01. The task has weight w, and share s p on core p, which had n p of the t runs before this one.
 -- Cores are counted from 1.
 use Prim.Native.Nat.{ℕ, _+_, _*_, _≤_, _<_}
 use Rattle.arith.specs.Ceiling.{ceilDiv}
