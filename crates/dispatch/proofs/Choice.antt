@@ -1,7 +1,7 @@
 -- A look's choice is the one that document 01 describes, and no other is.
 use Prim.Native.Nat.{ℕ, zero, suc, _-_, _≤_, _<_}
 use mathlib.Core.Path.{_≡_, refl, sym, ap, _∙_, subst}
-use mathlib.Core.Logic.{_⊎_, inl, inr, ⊎-elim}
+use mathlib.Core.Logic.{_↔_, _⊎_, inl, inr, ⊎-elim}
 use mathlib.Core.Bool.{cond, false≢true}
 use mathlib.Core.List.{[]}
 use native.Mathlib.Decide.{ℕ-discrete}
@@ -10,6 +10,7 @@ use lib.Dec.{ltb}
 use lib.ListN.{getD, List·getD-map}
 use borrow.Author.Tests.{ltb-true, ltb-false, eq-eqb, ne-eqb}
 use Rattle.units.specs.Limits.{tasksLimit}
+use Rattle.units.specs.declared.ticks.Ticks.{Ticks}
 use Rattle.units.specs.Units.{ticks}
 use Rattle.lists.proofs.Tests.{by-cases}
 use Rattle.assignment.specs.Movers.{lower, upper}
@@ -19,18 +20,21 @@ use Rattle.planning.specs.Plan.{noLine, rowOf, sharesTable}
 use Rattle.planning.specs.Tasks.{taskShares}
 use Rattle.soundness.proofs.SoundKept.{sound-kept}
 use Rattle.dispatch.specs.declared.Record.{Record}
+use Rattle.dispatch.specs.declared.call.Call.the-variants.{Look}
+use Rattle.dispatch.specs.declared.call.Answer.the-variants.{Looked}
 use Rattle.dispatch.specs.declared.look.Side.the-variants.{Upper, Lower}
 use Rattle.dispatch.specs.declared.look.Choice.{Choice}
 use Rattle.dispatch.specs.declared.look.Choice.the-variants.{Idle, Fixed, Mover}
 use Rattle.dispatch.specs.Record.{lineAt, stateAt}
-use Rattle.dispatch.specs.Refusals.{lookRefusal}
-use Rattle.dispatch.specs.Look.{bestOf, choiceFor, choiceOf, lookOf}
+use Rattle.dispatch.specs.Look.{bestOf, choiceFor, choiceOf}
 use Rattle.dispatch.specs.Shape.{Good}
+use Rattle.dispatch.specs.Calls.{answeredOf, callRefusal}
 use Rattle.dispatch.specs.Choice.{Waits, deadlineAt, UpperOn, LowerOn, GoesBefore, mover-first, upper-first, earliest, lowest}
 use Rattle.dispatch.specs.Choice.{GoesFirst, Chosen, idle, as-fixed, as-upper, as-lower}
 use Rattle.dispatch.proofs.Held.{held, waits-in}
 use Rattle.dispatch.proofs.Records.{task-in}
 use Rattle.dispatch.proofs.Answers.{look-taken}
+use Rattle.dispatch.proofs.OneCall.{look-no}
 use Rattle.dispatch.proofs.Search.{keyAt, Least, Found, found}
 use Rattle.dispatch.proofs.Waiting.{fixed-still, lower-only, Keyed, upper-key, lower-key, fixed-key}
 use Rattle.dispatch.proofs.Waiting.{key-upper, key-mover, key-lower, key-fixed, waits-keyed}
@@ -110,10 +114,6 @@ module _ (r : Record) (g : Good r) (k : ℕ) where
   unfolding choiceOf
   choice-chosen = by-search (bestOf r k tasksLimit .task) (bestOf r k tasksLimit .key) (found r k tasksLimit)
 
-  -- and so is an accepted look's
-  pub look-chosen : (t : ℕ) → lookRefusal r k t ≡ 0 → Chosen r k (lookOf r k t .choice)
-  look-chosen t e = rw (look-taken r k t refl e refl) choice-chosen
-
 module _ (r : Record) (k : ℕ) where
   -- a task that goes before another has no greater key, and the lower number at a tie
   before-key : (j i : ℕ) → GoesBefore r k j i → (keyAt r k (j - 1) ≤ keyAt r k (i - 1)) × (keyAt r k (i - 1) ≤ keyAt r k (j - 1) → j < i)
@@ -168,3 +168,11 @@ module _ (r : Record) (k : ℕ) where
       (λ d. c .2 ∙ ap said (first-one (c .0) (d .0) (c .1) (d .1)) ∙ sym (d .2))
       (told b))
       (told a)
+
+-- an accepted look answers it, and no other
+pub look-exactly : (r : Record) → Good r → (k : ℕ) (t : Ticks) → callRefusal r (Look k t) ≡ 0 → (x : Choice)
+    → (answeredOf r (Look k t) .answer ≡ Looked x) ↔ Chosen r k x
+look-exactly r g k t e x =
+    let q = look-taken r k (t .0) (sym (sym (look-no r k t) ∙ e)) refl refl in
+    rw (answeredOf, q)
+    (λ a. subst (Chosen r k) (cc) (choice-chosen r g k), λ c. ap Looked (chosen-one r k (choice-chosen r g k) c))

@@ -3,7 +3,7 @@ use Prim.Native.Nat.{ℕ, suc, _+_, _-_, _*_, _/_, _%_, _≤_, _<_}
 use mathlib.Core.Path.{_≡_, refl, sym, ap, ap₂, _∙_, subst}
 use mathlib.Core.Bool.{true}
 use mathlib.Core.List.{List}
-use native.Mathlib.Nat.{add-zero, le-refl}
+use native.Mathlib.Nat.{add-zero, le-refl, div-add-mod'}
 use native.Mathlib.Omega.{arith}
 use lib.ListN.{length, getD, List·getD-map}
 use borrow.Author.Tests.{eqb-true}
@@ -128,10 +128,13 @@ module _ (pl : Plan) (g : Good (recordOf pl)) (i : ℕ) (from : 0 < i) (to : i �
       of-whole-cycles q h = sent-is (q * w) h ∙ whole w ss (lined .some) (lined .shares) wide q (p - 1)
 
       -- its count in the record is that of the runs since the last whole cycle
-      pub count-is : length ks / w * s p + getD (st .counts) (p - 1) 0 ≡ sentTo p ks (length ks)
+      pub count-is : getD (st .counts) (p - 1) 0 ≡ inARow p ks (length ks / w * w) (length ks % w)
       count-is =
-          rw (here-last .turns .counts)
-          (counts-after w ss (lined .some) (lined .shares) wide (length ks) (p - 1) ∙ sym (sent-is (length ks) (le-refl (length ks))))
+          let q = length ks / w in
+          let e : q * w + length ks % w ≡ length ks = div-add-mod' (length ks) w in
+          let a = counts-after w ss (lined .some) (lined .shares) wide (length ks) (p - 1) in
+          let b = ap (sentTo p ks) (sym e) ∙ sent-row p ks (q * w) (length ks % w) in
+          rw (here-last .turns .counts) (omega (arith, a, b, sent-is (length ks) (le-refl (length ks)), of-whole-cycles q (omega (arith, e))))
 
       -- of c in a row after the first a, x of them on core p, it has less than two more or less than its part
       of-any : (a c x : ℕ) → a + c ≤ length ks → sentTo p ks (a + c) ≡ sentTo p ks a + x → (x * w < s p * c + 2 * w) × (s p * c < x * w + 2 * w)

@@ -1,0 +1,85 @@
+-- Each run's core and each core's choice are those of document 01, over any calls after an accepted list, refused ones included.
+-- Tasks and cores are counted from 1, runs from 0.
+use Prim.Native.Nat.{ℕ, _+_, _-_, _*_, _/_, _%_, _≤_, _<_}
+use mathlib.Core.Path.{_≡_, subst}
+use mathlib.Core.Logic.{_↔_}
+use mathlib.Core.Bool.{true}
+use mathlib.Core.List.{List}
+use lib.ListN.{length, getD}
+use Rattle.units.specs.declared.ticks.Ticks.{Ticks}
+use Rattle.admission.specs.Words.{tasks}
+use Rattle.assignment.specs.Movers.{fixed, firstCore}
+use Rattle.planning.specs.Plan.{planOf}
+use Rattle.planning.specs.Tasks.{taskWeight, taskShares, taskShare}
+use Rattle.turn.specs.Choice.{RunGoesTo}
+use Rattle.turn.proofs.SincePlan.{goes-to-one}
+use Rattle.dispatch.specs.declared.Record.{Record}
+use Rattle.dispatch.specs.declared.call.Call.{Call}
+use Rattle.dispatch.specs.declared.call.Call.the-variants.{Look}
+use Rattle.dispatch.specs.declared.call.Answer.the-variants.{Looked}
+use Rattle.dispatch.specs.declared.look.Choice.{Choice}
+use Rattle.dispatch.specs.Record.{recordOf, freshOf, stateAt}
+use Rattle.dispatch.specs.Calls.{answeredOf, callRefusal, after, coresOf, sentTo, inARow}
+use Rattle.dispatch.specs.Choice.{Chosen}
+use Rattle.dispatch.proofs.Started.{started}
+use Rattle.dispatch.proofs.Always.{always-good}
+use Rattle.dispatch.proofs.Choice.{look-exactly}
+use Rattle.dispatch.proofs.Demand3.{goes-to, of-whole-cycles, place-is, count-is, of-a-fixed}
+use Rattle.demands.proofs.Drawn.{drawn-cores, drawn-task, drawn-good}
+
+-- a list m, xs that is taken, and any calls cs on its fresh record
+module _ (m : ℕ) (xs : List ℕ) (ok : freshOf m xs .refusal .no ≡ 0) (cs : List Call) where
+  -- the record after them
+  abbrev r : Record
+  r = after (freshOf m xs .next) cs
+
+  -- one of its tasks i
+  module _ (i : ℕ) (from : 1 ≤ i) (to : i ≤ tasks xs) where
+    -- its runs: the cores that its accepted releases answer, in order
+    abbrev ks : List ℕ
+    ks = coresOf i (freshOf m xs .next) cs
+
+    -- its weight w
+    abbrev w : ℕ
+    w = taskWeight (freshOf m xs .next .plan) i
+
+    -- its share s on core p
+    abbrev s : ℕ → ℕ
+    s p = taskShare (freshOf m xs .next .plan) i p
+
+    named : (c : ℕ) → c < length ks → RunGoesTo w c s (λ q. sentTo q ks c) m (getD ks c 0)
+    unfolding freshOf recordOf
+    named c h =
+        subst (λ (k : ℕ). RunGoesTo w c s (λ q. sentTo q ks c) k (getD ks c 0)) (drawn-cores m xs ok)
+        (goes-to (planOf m xs .plan) (started m xs ok) i from (drawn-task m xs ok i to) cs c h)
+
+    -- the core of run number c is the one that the turn rule names, where t is c, the accepted runs before this one since the plan, and no other
+    pub core-exactly : (c : ℕ) → c < length ks → (p : ℕ) → (getD ks c 0 ≡ p) ↔ RunGoesTo w c s (λ q. sentTo q ks c) m p
+    core-exactly c h p = (
+      λ e. subst (λ (k : ℕ). RunGoesTo w c s (λ q. sentTo q ks c) m k) e (named c h),
+      λ a. goes-to-one w c s (λ q. sentTo q ks c) m (getD ks c 0) p (named c h) a,
+    )
+
+    -- after w runs each core has had exactly its s, and so after any number of cycles
+    pub whole-cycles : (p : ℕ) → 1 ≤ p → (q : ℕ) → q * w ≤ length ks → sentTo p ks (q * w) ≡ q * s p
+    unfolding freshOf recordOf
+    whole-cycles = of-whole-cycles (planOf m xs .plan) (started m xs ok) i from (drawn-task m xs ok i to) cs
+
+    -- counts and place then start from 0 again: the record has those of the runs since the last whole cycle
+    pub place-of-cycle : stateAt r (i - 1) .place ≡ length ks % w
+    unfolding freshOf recordOf
+    place-of-cycle = place-is (planOf m xs .plan) (started m xs ok) i from (drawn-task m xs ok i to) cs
+
+    pub counts-of-cycle : (p : ℕ) → 1 ≤ p → getD (stateAt r (i - 1) .counts) (p - 1) 0 ≡ inARow p ks (length ks / w * w) (length ks % w)
+    unfolding freshOf recordOf
+    counts-of-cycle = count-is (planOf m xs .plan) (started m xs ok) i from (drawn-task m xs ok i to) cs
+
+    -- a fixed task's runs all go to its core
+    pub fixed-stays : fixed (taskShares (freshOf m xs .next .plan) i) ≡ true → (c : ℕ) → c < length ks
+        → getD ks c 0 ≡ firstCore (taskShares (freshOf m xs .next .plan) i) + 1
+    unfolding freshOf recordOf
+    fixed-stays = of-a-fixed (planOf m xs .plan) (started m xs ok) i from (drawn-task m xs ok i to) cs
+
+  -- an accepted look at core k answers the choice that document 01 describes, and no other
+  pub choice-exactly : (k : ℕ) (t : Ticks) → callRefusal r (Look k t) ≡ 0 → (x : Choice) → (answeredOf r (Look k t) .answer ≡ Looked x) ↔ Chosen r k x
+  choice-exactly = look-exactly r (always-good (freshOf m xs .next) cs (drawn-good m xs ok))
