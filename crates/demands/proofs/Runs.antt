@@ -9,6 +9,7 @@ use lib.ListN.{length, getD}
 use Rattle.units.specs.declared.ticks.Ticks.{Ticks}
 use Rattle.admission.specs.Words.{tasks}
 use Rattle.assignment.specs.Movers.{fixed, firstCore}
+use Rattle.planning.specs.declared.Plan.{Plan}
 use Rattle.planning.specs.Plan.{planOf}
 use Rattle.planning.specs.Tasks.{taskWeight, taskShares, taskShare}
 use Rattle.turn.specs.Choice.{RunGoesTo}
@@ -29,7 +30,10 @@ use Rattle.demands.proofs.Drawn.{drawn-cores, drawn-task, drawn-good}
 
 -- a list m, xs that is taken, and any calls cs on its fresh record
 module _ (m : ℕ) (xs : List ℕ) (ok : freshOf m xs .refusal .no ≡ 0) (cs : List Call) where
-  -- the record after them
+  -- the plan, and the record after the calls
+  abbrev pl : Plan
+  pl = freshOf m xs .next .plan
+
   abbrev r : Record
   r = after (freshOf m xs .next) cs
 
@@ -39,21 +43,21 @@ module _ (m : ℕ) (xs : List ℕ) (ok : freshOf m xs .refusal .no ≡ 0) (cs : 
     abbrev ks : List ℕ
     ks = coresOf i (freshOf m xs .next) cs
 
-    -- its weight w
+    -- its weight w, and its share s on core p
     abbrev w : ℕ
-    w = taskWeight (freshOf m xs .next .plan) i
+    w = taskWeight pl i
 
-    -- its share s on core p
     abbrev s : ℕ → ℕ
-    s p = taskShare (freshOf m xs .next .plan) i p
+    s p = taskShare pl i p
 
+    -- the turn rule names the core of run number c, where t is c, the accepted runs before this one since the plan
     named : (c : ℕ) → c < length ks → RunGoesTo w c s (λ q. sentTo q ks c) m (getD ks c 0)
     unfolding freshOf recordOf
     named c h =
         subst (λ (k : ℕ). RunGoesTo w c s (λ q. sentTo q ks c) k (getD ks c 0)) (drawn-cores m xs ok)
         (goes-to (planOf m xs .plan) (started m xs ok) i from (drawn-task m xs ok i to) cs c h)
 
-    -- the core of run number c is the one that the turn rule names, where t is c, the accepted runs before this one since the plan, and no other
+    -- and it names no other
     pub core-exactly : (c : ℕ) → c < length ks → (p : ℕ) → (getD ks c 0 ≡ p) ↔ RunGoesTo w c s (λ q. sentTo q ks c) m p
     core-exactly c h p = (
       λ e. subst (λ (k : ℕ). RunGoesTo w c s (λ q. sentTo q ks c) m k) e (named c h),
@@ -75,8 +79,7 @@ module _ (m : ℕ) (xs : List ℕ) (ok : freshOf m xs .refusal .no ≡ 0) (cs : 
     counts-of-cycle = count-is (planOf m xs .plan) (started m xs ok) i from (drawn-task m xs ok i to) cs
 
     -- a fixed task's runs all go to its core
-    pub fixed-stays : fixed (taskShares (freshOf m xs .next .plan) i) ≡ true → (c : ℕ) → c < length ks
-        → getD ks c 0 ≡ firstCore (taskShares (freshOf m xs .next .plan) i) + 1
+    pub fixed-stays : fixed (taskShares pl i) ≡ true → (c : ℕ) → c < length ks → getD ks c 0 ≡ firstCore (taskShares pl i) + 1
     unfolding freshOf recordOf
     fixed-stays = of-a-fixed (planOf m xs .plan) (started m xs ok) i from (drawn-task m xs ok i to) cs
 
