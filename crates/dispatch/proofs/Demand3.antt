@@ -16,7 +16,8 @@ use Rattle.planning.specs.declared.Plan.{Plan}
 use Rattle.planning.specs.Plan.{noLine, rowOf}
 use Rattle.planning.specs.Kept.{PlanKept}
 use Rattle.planning.specs.Tasks.{taskLine, taskWeight, taskShares, taskShare}
-use Rattle.turn.specs.Runs.{coreOfRun, sent}
+use Rattle.turn.specs.Runs.{coreOfRun}
+use Rattle.turn.proofs.Sent.{sent}
 use Rattle.turn.specs.Choice.{RunGoesTo}
 use Rattle.turn.proofs.Choice.{some-share}
 use Rattle.turn.proofs.Cycle.{place-after, counts-after}

@@ -16,7 +16,8 @@ use Rattle.lists.proofs.Lists.{getD-le-sum, zeros-at}
 use Rattle.turn.specs.declared.Turn.{Turn}
 use Rattle.turn.specs.Turn.{more, counted, turnOf, nextTurn}
 use Rattle.turn.proofs.Choice.{choice}
-use Rattle.turn.specs.Runs.{turnAfter, coreOfRun, sent}
+use Rattle.turn.specs.Runs.{turnAfter, coreOfRun}
+use Rattle.turn.proofs.Sent.{sent}
 use Rattle.turn.proofs.Pace.{Pace, pace-start, pace-more, pace-whole}
 
 -- what is known of counts and place after c runs, f p of them on core p + 1

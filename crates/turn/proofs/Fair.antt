@@ -14,7 +14,8 @@ use Rattle.arith.specs.Ceiling.{ceilDiv}
 use Rattle.arith.proofs.Rounding.{ceil-least}
 use Rattle.turn.proofs.Choice.{Picked, open-share, choice}
 use Rattle.turn.proofs.Counting.{turn-core}
-use Rattle.turn.specs.Runs.{turnAfter, coreOfRun, sent}
+use Rattle.turn.specs.Runs.{turnAfter, coreOfRun}
+use Rattle.turn.proofs.Sent.{sent}
 use Rattle.turn.proofs.Pace.{pace-behind}
 use Rattle.turn.proofs.Cycle.{state}
 

@@ -14,7 +14,8 @@ use Rattle.lists.specs.Lists.{total}
 use Rattle.lists.proofs.Tests.{by-cases}
 use Rattle.arith.specs.Ceiling.{ceilDiv}
 use Rattle.turn.specs.Choice.{Open, due, RunGoesTo}
-use Rattle.turn.specs.Runs.{turnAfter, coreOfRun, sent}
+use Rattle.turn.specs.Runs.{turnAfter, coreOfRun}
+use Rattle.turn.proofs.Sent.{sent}
 use Rattle.turn.proofs.Choice.{OpenAt, dueAt, Picked, open-share}
 use Rattle.turn.proofs.Cycle.{state}
 use Rattle.turn.proofs.Fair.{run-picked}
