@@ -7,26 +7,42 @@ use mathlib.Core.Bool.{true}
 use mathlib.Core.List.{List}
 use lib.ListN.{length, getD}
 use Rattle.units.specs.declared.ticks.Ticks.{Ticks}
+use Rattle.units.specs.Units.{ticks}
 use Rattle.admission.specs.Words.{tasks}
 use Rattle.assignment.specs.Movers.{fixed, firstCore}
 use Rattle.planning.specs.declared.Plan.{Plan}
 use Rattle.planning.specs.Plan.{planOf}
-use Rattle.planning.specs.Tasks.{taskWeight, taskShares, taskShare}
+use Rattle.planning.specs.Tasks.{taskLine, taskWeight, taskShares, taskShare}
 use Rattle.turn.specs.Choice.{RunGoesTo}
 use Rattle.turn.proofs.SincePlan.{goes-to-one}
 use Rattle.dispatch.specs.declared.Record.{Record}
 use Rattle.dispatch.specs.declared.call.Call.{Call}
-use Rattle.dispatch.specs.declared.call.Call.the-variants.{Look}
-use Rattle.dispatch.specs.declared.call.Answer.the-variants.{Looked}
+use Rattle.dispatch.specs.declared.call.Call.the-variants.{Release, Look}
+use Rattle.dispatch.specs.declared.call.Answer.the-variants.{Released, Looked}
 use Rattle.dispatch.specs.declared.look.Choice.{Choice}
 use Rattle.dispatch.specs.Record.{recordOf, freshOf, stateAt}
+use Rattle.dispatch.specs.Shape.{Good}
 use Rattle.dispatch.specs.Calls.{answeredOf, callRefusal, after, coresOf, sentTo, inARow}
 use Rattle.dispatch.specs.Choice.{Chosen}
 use Rattle.dispatch.proofs.Started.{started}
 use Rattle.dispatch.proofs.Always.{always-good}
 use Rattle.dispatch.proofs.Choice.{look-exactly}
+use Rattle.dispatch.proofs.Going.{release-exactly}
 use Rattle.dispatch.proofs.Demand3.{goes-to, of-whole-cycles, place-is, count-is, of-a-fixed}
 use Rattle.demands.proofs.Drawn.{drawn-cores, drawn-task, drawn-good}
+
+-- any sound record, reached from a plan or not
+module _ (r : Record) (g : Good r) where
+  -- an accepted release answers the core that the turn rule names by the record's place and counts, and the deadline, release time plus T; and no other
+  pub release-answers : (i : ℕ) (t : Ticks) → callRefusal r (Release i t) ≡ 0 → (p : ℕ) (d : Ticks)
+      → (answeredOf r (Release i t) .answer ≡ Released p d)
+      ↔ (RunGoesTo (taskWeight (r .plan) i) (stateAt r (i - 1) .place) (taskShare (r .plan) i) (λ q. getD (stateAt r (i - 1) .counts) (q - 1) 0) (r .plan .cores) p
+      × (d ≡ ticks (t .0 + taskLine (r .plan) i .period .0)))
+  release-answers = release-exactly r g
+
+  -- an accepted look at core k answers the choice that document 01 describes, and no other
+  pub look-answers : (k : ℕ) (t : Ticks) → callRefusal r (Look k t) ≡ 0 → (x : Choice) → (answeredOf r (Look k t) .answer ≡ Looked x) ↔ Chosen r k x
+  look-answers = look-exactly r g
 
 -- a list m, xs that is taken, and any calls cs on its fresh record
 module _ (m : ℕ) (xs : List ℕ) (ok : freshOf m xs .refusal .no ≡ 0) (cs : List Call) where
@@ -83,6 +99,6 @@ module _ (m : ℕ) (xs : List ℕ) (ok : freshOf m xs .refusal .no ≡ 0) (cs : 
     unfolding freshOf recordOf
     fixed-stays = of-a-fixed (planOf m xs .plan) (started m xs ok) i from (drawn-task m xs ok i to) cs
 
-  -- an accepted look at core k answers the choice that document 01 describes, and no other
+  -- core k's choice then is the one that document 01 describes, and no other
   pub choice-exactly : (k : ℕ) (t : Ticks) → callRefusal r (Look k t) ≡ 0 → (x : Choice) → (answeredOf r (Look k t) .answer ≡ Looked x) ↔ Chosen r k x
-  choice-exactly = look-exactly r (always-good (freshOf m xs .next) cs (drawn-good m xs ok))
+  choice-exactly = look-answers r (always-good (freshOf m xs .next) cs (drawn-good m xs ok))

@@ -5,36 +5,31 @@ use mathlib.Core.Bool.{true}
 use mathlib.Core.List.{List}
 use native.Mathlib.Nat.{add-zero, le-refl, div-add-mod'}
 use native.Mathlib.Omega.{arith}
-use lib.ListN.{length, getD, List·getD-map}
+use lib.ListN.{length, getD}
 use borrow.Author.Tests.{eqb-true}
 use Rattle.units.specs.Limits.{coresLimit}
 use Rattle.lists.specs.Lists.{total, parts}
 use Rattle.arith.specs.Ceiling.{ceilDiv}
 use Rattle.assignment.specs.Movers.{fixed, firstCore}
-use Rattle.assignment.proofs.Properties.{share-core}
 use Rattle.planning.specs.declared.Plan.{Plan}
-use Rattle.planning.specs.Plan.{noLine, rowOf}
-use Rattle.planning.specs.Kept.{PlanKept}
 use Rattle.planning.specs.Tasks.{taskLine, taskWeight, taskShares, taskShare}
 use Rattle.turn.specs.Runs.{coreOfRun}
 use Rattle.turn.proofs.Sent.{sent}
 use Rattle.turn.specs.Choice.{RunGoesTo}
-use Rattle.turn.proofs.Choice.{some-share}
 use Rattle.turn.proofs.Cycle.{place-after, counts-after}
 use Rattle.turn.proofs.Fair.{rounded, in-a-row, whole, fixed as all-to-one}
-use Rattle.turn.proofs.SincePlan.{since-plan, goes-among}
+use Rattle.turn.proofs.SincePlan.{since-plan}
 use Rattle.task_state.specs.declared.State.{State}
 use Rattle.dispatch.specs.Record.{recordOf, stateAt}
 use Rattle.dispatch.specs.Shape.{Good}
 use Rattle.dispatch.specs.declared.call.Call.{Call}
 use Rattle.dispatch.specs.Calls.{after, coresOf, sentTo, inARow}
 use Rattle.soundness.proofs.Lined.{Lined}
-use Rattle.soundness.proofs.SoundKept.{sound-kept}
-use Rattle.dispatch.proofs.Held.{held}
 use Rattle.dispatch.proofs.Records.{task-in, task-lined, task-wide}
 use Rattle.dispatch.proofs.Fresh.{fresh-at}
 use Rattle.dispatch.proofs.Turns.{At, at-first, Here}
 use Rattle.dispatch.proofs.Sequence.{here-after, cores-after}
+use Rattle.dispatch.proofs.Going.{on-cores}
 use Rattle.dispatch.proofs.Counted.{sent-row, sent-are}
 
 module _ (pl : Plan) (g : Good (recordOf pl)) (i : ℕ) (from : 0 < i) (to : i ≤ pl .count) where
@@ -69,15 +64,6 @@ module _ (pl : Plan) (g : Good (recordOf pl)) (i : ℕ) (from : 0 < i) (to : i �
   unfolding recordOf
   wide = task-wide (recordOf pl) g (i - 1) (omega arith)
 
-  -- the plan keeps what a plan must
-  plan-kept : PlanKept pl
-  unfolding recordOf
-  plan-kept = sound-kept pl (g .shaped .plan) (held (recordOf pl) (g .sound) .plan)
-
-  -- a share is on one of its cores
-  share-there : (p : ℕ) → 0 < getD ss p 0 → p < pl .cores
-  share-there p h = share-core (plan-kept .structure) (i - 1) p (rw (List·getD-map rowOf (pl .lines) (i - 1) noLine) h)
-
   module _ (cs : List Call) where
     -- the cores of its runs
     abbrev ks : List ℕ
@@ -93,6 +79,7 @@ module _ (pl : Plan) (g : Good (recordOf pl)) (i : ℕ) (from : 0 < i) (to : i �
 
     -- that core is the one that document 01 names, by all the runs since the plan
     pub goes-to : (c : ℕ) → c < length ks → RunGoesTo w c s (λ p. sentTo p ks c) (pl .cores) (getD ks c 0)
+    unfolding recordOf
     goes-to c h =
         let n : ℕ → ℕ = λ p. sentTo p ks c in
         let p = getD ks c 0 in
@@ -101,8 +88,7 @@ module _ (pl : Plan) (g : Good (recordOf pl)) (i : ℕ) (from : 0 < i) (to : i �
         (since-plan w ss (lined .some) (lined .shares) wide c s n
         (λ j. let e : suc j - 1 ≡ j = omega arith in rw e)
         (λ j. sent-are (suc j) w ss ks core-of-run c (omega arith))) in
-        goes-among w c s n coresLimit (pl .cores) p (plan-kept .cores-few)
-        (omega (arith, share-there (p - 1) (some-share (n p * w) (s p) c (all .opened)), all .from)) all
+        on-cores (recordOf pl) g i c n p all
 
     -- every run of a fixed task goes to its core
     pub of-a-fixed : fixed ss ≡ true → (c : ℕ) → c < length ks → getD ks c 0 ≡ firstCore ss + 1

@@ -13,10 +13,13 @@ use Rattle.units.specs.Limits.{coresLimit}
 use Rattle.lists.specs.Lists.{total}
 use Rattle.lists.proofs.Tests.{by-cases}
 use Rattle.arith.specs.Ceiling.{ceilDiv}
+use Rattle.turn.specs.Turn.{turnOf}
+use Rattle.turn.specs.Inner.{Turnable}
 use Rattle.turn.specs.Choice.{Open, due, RunGoesTo}
 use Rattle.turn.specs.Runs.{turnAfter, coreOfRun}
 use Rattle.turn.proofs.Sent.{sent}
-use Rattle.turn.proofs.Choice.{OpenAt, dueAt, Picked, open-share}
+use Rattle.turn.proofs.Choice.{OpenAt, dueAt, Picked, open-share, turn-choice}
+use Rattle.turn.proofs.Counting.{turn-core}
 use Rattle.turn.proofs.Cycle.{state}
 use Rattle.turn.proofs.Fair.{run-picked}
 
@@ -61,6 +64,14 @@ since-plan w ss pos shares long c s n share runs =
     rw (x .1)
     (picked-goes w (turnAfter w ss c .place) (a .cycles) c ss (turnAfter w ss c .counts) s n (a .number) share (λ i. runs i ∙ a .runs i)
     coresLimit (x .0) (x .2))
+
+-- so is the core that the turn step answers, by the place and the counts that it is given
+pub turn-goes : (w t : ℕ) (ss ns : List ℕ) → Turnable w t ss ns → length ss ≡ coresLimit → length ns ≡ coresLimit → (s n : ℕ → ℕ)
+    → ((i : ℕ) → s (suc i) ≡ getD ss i 0) → ((i : ℕ) → n (suc i) ≡ getD ns i 0) → RunGoesTo w t s n coresLimit (turnOf w t ss ns .core)
+turn-goes w t ss ns a wide long s n share runs =
+    let x = turn-choice w t ss ns a wide long in
+    rw (turn-core w t ss ns, x .1)
+    (picked-goes w t 0 t ss ns s n (omega arith) share (λ i. omega (arith, runs i)) coresLimit (x .0) (x .2))
 
 -- it is the one of the first k cores too, if it is among them
 pub goes-among : (w t : ℕ) (s n : ℕ → ℕ) (m k p : ℕ) → k ≤ m → p ≤ k → RunGoesTo w t s n m p → RunGoesTo w t s n k p
