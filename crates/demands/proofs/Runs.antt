@@ -36,7 +36,8 @@ module _ (r : Record) (g : Good r) where
   -- an accepted release answers the core that the turn rule names by the record's place and counts, and the deadline, release time plus T; and no other
   pub release-answers : (i : ℕ) (t : Ticks) → callRefusal r (Release i t) ≡ 0 → (p : ℕ) (d : Ticks)
       → (answeredOf r (Release i t) .answer ≡ Released p d)
-      ↔ (RunGoesTo (taskWeight (r .plan) i) (stateAt r (i - 1) .place) (taskShare (r .plan) i) (λ q. getD (stateAt r (i - 1) .counts) (q - 1) 0) (r .plan .cores) p
+      ↔ (RunGoesTo (taskWeight (r .plan) i) (stateAt r (i - 1) .place) (taskShare (r .plan) i) (λ q. getD (stateAt r (i - 1) .counts) (q - 1) 0)
+      (r .plan .cores) p
       × (d ≡ ticks (t .0 + taskLine (r .plan) i .period .0)))
   release-answers = release-exactly r g
 
