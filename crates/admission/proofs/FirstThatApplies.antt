@@ -4,7 +4,7 @@ use mathlib.Core.Path.{_≡_, refl, ap}
 use mathlib.Core.Logic.{_↔_, _⊎_, ⊎-elim}
 use mathlib.Core.List.{List}
 use native.Mathlib.Omega.{arith}
-use Rattle.arith.specs.Period.{periods, First}
+use Rattle.arith.specs.Period.{periods, TakesOver}
 use Rattle.arith.proofs.Table.{periods-length}
 use Rattle.arith.proofs.Within.{period-over, over-period, over-large, large-over}
 use Rattle.units.specs.Refusals.{refusal}
@@ -59,10 +59,10 @@ module _ (m : ℕ) (xs : List ℕ) where
       of (four r i c) = (r, i, c)
 
   -- 5, naming task i: it is the first whose period takes the common period of the tasks so far over the limit
-  pub exactly-5 : (i : ℕ) → (planRefusal m xs ≡ refusal 5 i) ↔ (Tested m xs × First (periods xs) i)
+  pub exactly-5 : (i : ℕ) → (planRefusal m xs ≡ refusal 5 i) ↔ (Tested m xs × TakesOver (periods xs) i)
   exactly-5 i = (λ e. of (given 5 i .0 e), λ p. gives m xs (five (p .0) (p .1)))
     where
-      of : Given m xs 5 i → Tested m xs × First (periods xs) i
+      of : Given m xs 5 i → Tested m xs × TakesOver (periods xs) i
       of (five t f) = (t, f)
 
   -- 5: the common period exceeds its limit

@@ -1,7 +1,7 @@
 -- Planning's rows of document 01, "Refusal numbers", each with the earlier ones not applying.
 use Prim.Native.Nat.{ℕ, suc, _<_}
 use mathlib.Core.List.{List}
-use Rattle.arith.specs.Period.{periods, First}
+use Rattle.arith.specs.Period.{periods, TakesOver}
 use Rattle.admission.specs.Words.{
   CoresIn,
   CoresOut,
@@ -49,5 +49,5 @@ pub data Given (m : ℕ) (xs : List ℕ) : ℕ → ℕ → Type 0 where
   two : CoresIn m → TableOut xs → Given m xs 2 0
   three : {k : ℕ} → Reached m xs k → RangeOut xs k → Given m xs 3 (suc k)
   four : {k : ℕ} → Reached m xs k → RangeIn xs k → CostOver xs k → Given m xs 4 (suc k)
-  five : {i : ℕ} → Tested m xs → First (periods xs) i → Given m xs 5 i
+  five : {i : ℕ} → Tested m xs → TakesOver (periods xs) i → Given m xs 5 i
   six : Tested m xs → PeriodIn xs → Overfull m xs → Given m xs 6 0

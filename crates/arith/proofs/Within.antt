@@ -10,7 +10,7 @@ use lib.Seq.{take-nil, take-length}
 use Rattle.lists.proofs.Tests.{by-cases}
 use Rattle.units.specs.Limits.{commonLimit}
 use Rattle.arith.specs.Divisor.{lcm}
-use Rattle.arith.specs.Period.{commonFrom, common, periodFrom, periodOf, First}
+use Rattle.arith.specs.Period.{commonFrom, common, periodFrom, periodOf, TakesOver}
 use Rattle.arith.specs.declared.period.Period.{Period}
 use Rattle.arith.specs.declared.period.Period.the-variants.{Common, Over}
 use Rattle.arith.proofs.Common.{Each, common-grows}
@@ -71,7 +71,7 @@ period-common ts l e =
     (s .0, rw (s .0) (rw (take-length ts) at (s .1 (length ts) (omega arith))))
 
 -- a task that is answered is the first that takes it over
-pub period-over : (ts : List ℕ) (k : ℕ) → periodOf ts ≡ Over k → First ts k
+pub period-over : (ts : List ℕ) (k : ℕ) → periodOf ts ≡ Over k → TakesOver ts k
 unfolding common
 period-over ts k e =
     let s = answer ts (Over k) e in
@@ -84,14 +84,14 @@ period-over ts k e =
     }
 
 -- no other task stands before the first
-first-least : (ts : List ℕ) (n k : ℕ) → First ts n → First ts k → n ≤ k
+first-least : (ts : List ℕ) (n k : ℕ) → TakesOver ts n → TakesOver ts k → n ≤ k
 first-least ts n k f g =
     by-cases (ltb k n)
     (λ e. absurd (omega (arith, f .before k (ltb-true k n e), g .over)))
     (λ e. ltb-false k n e)
 
 -- the first that takes it over is answered
-pub over-period : (ts : List ℕ) (k : ℕ) → First ts k → periodOf ts ≡ Over k
+pub over-period : (ts : List ℕ) (k : ℕ) → TakesOver ts k → periodOf ts ≡ Over k
 unfolding common
 over-period ts k f = go (periodOf ts) refl
   where

@@ -39,7 +39,7 @@ unfoldable pub periodOf : List ℕ → Period
 periodOf ts = periodFrom 1 1 ts
 
 -- k is the first of these tasks, from 1, whose period takes the common period of the tasks so far over the limit
-pub record First (ts : List ℕ) (k : ℕ) : Type 0 where
+pub record TakesOver (ts : List ℕ) (k : ℕ) : Type 0 where
   pub from : 1 ≤ k
   pub to : k ≤ length ts
   pub before : (j : ℕ) → j < k → common (take j ts) ≤ commonLimit

@@ -25,3 +25,5 @@ pub mod RefusalLines
 pub mod SaysTable
 pub mod Program
 pub mod Lent
+pub mod Drawn
+pub mod Runs

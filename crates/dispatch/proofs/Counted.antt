@@ -7,7 +7,8 @@ use lib.Dec.{eqb}
 use lib.ListN.{length, getD, take, drop}
 use lib.Seq.{take-add}
 use Rattle.lists.specs.Lists.{bit}
-use Rattle.turn.specs.Runs.{coreOfRun, sent}
+use Rattle.turn.specs.Runs.{coreOfRun}
+use Rattle.turn.proofs.Sent.{sent}
 use Rattle.dispatch.specs.Calls.{among, sentTo, inARow}
 
 module _ (p : ℕ) where

@@ -18,6 +18,7 @@ pub mod Fresh
 pub mod Turns
 pub mod Sequence
 pub mod Counted
+pub mod Going
 pub mod Demand3
 pub mod Search
 pub mod Waiting

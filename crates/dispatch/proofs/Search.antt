@@ -1,4 +1,5 @@
 -- The search for a core's choice finds the task with the least key of those that wait there, the lowest at a tie, or that none waits.
+-- Tasks are counted from 0 here.
 use Prim.Native.Nat.{ℕ, zero, suc, _+_, _≤_, _<_}
 use mathlib.Core.Path.{_≡_, refl}
 use mathlib.Core.Bool.{Bool, true, false, cond, _&&_, _||_, false≢true}
@@ -7,12 +8,26 @@ use native.Mathlib.Numerals.{add-one}
 use borrow.Author.Count.{below-more}
 use borrow.Author.Tests.{ltb-true, ltb-false}
 use lib.Dec.{ltb, eqb, eqb·suc-zero}
-use Rattle.task_state.specs.Key.{waits}
+use Rattle.task_state.specs.Key.{waits, keyOf}
 use Rattle.dispatch.specs.declared.Record.{Record}
 use Rattle.dispatch.specs.declared.look.Best.{Best}
-use Rattle.dispatch.specs.Record.{stateAt}
+use Rattle.dispatch.specs.Record.{lineAt, stateAt}
 use Rattle.dispatch.specs.Look.{bestOf}
-use Rattle.dispatch.specs.Choice.{Waits, keyAt, Least}
+
+-- task i's oldest unfinished run is on core k
+abbrev pub WaitsAt : Record → ℕ → ℕ → Type 0
+WaitsAt r k i = waits (stateAt r i) k ≡ true
+
+-- its key there
+abbrev pub keyAt : Record → ℕ → ℕ → ℕ
+keyAt r k i = keyOf (lineAt r i) (stateAt r i) k
+
+-- of the first n tasks, task j has the least key of those that wait on core k, and the lowest number at a tie
+pub record Least (r : Record) (k n j : ℕ) : Type 0 where
+  pub within : j < n
+  pub waiting : WaitsAt r k j
+  pub least : (i : ℕ) → i < n → WaitsAt r k i → keyAt r k j ≤ keyAt r k i
+  pub lowest : (i : ℕ) → i < j → WaitsAt r k i → keyAt r k j < keyAt r k i
 
 -- after n tasks, by the task that was found, from 1, and its key
 abbrev pub Found : Record → ℕ → ℕ → ℕ → ℕ → Type 0
@@ -21,7 +36,7 @@ Found r k n (suc j) d = (d ≡ keyAt r k j) × Least r k n j
 
 module _ (r : Record) (k : ℕ) where
   -- the next task is taken: it waits, and its key is less than that of each that waits so far
-  taken : (n : ℕ) → Waits r k n → ((i : ℕ) → i < n → Waits r k i → keyAt r k n < keyAt r k i) → Least r k (n + 1) n
+  taken : (n : ℕ) → WaitsAt r k n → ((i : ℕ) → i < n → WaitsAt r k i → keyAt r k n < keyAt r k i) → Least r k (n + 1) n
   taken n w h = record {
     within = omega arith;
     waiting = w;
@@ -30,7 +45,7 @@ module _ (r : Record) (k : ℕ) where
   }
 
   -- it is not: it does not wait, or its key is no less than that of the one found
-  kept : (n j : ℕ) → Least r k n j → (Waits r k n → keyAt r k j ≤ keyAt r k n) → Least r k (n + 1) j
+  kept : (n j : ℕ) → Least r k n j → (WaitsAt r k n → keyAt r k j ≤ keyAt r k n) → Least r k (n + 1) j
   kept n j c h = record {
     within = omega (arith, c .within);
     waiting = c .waiting;

@@ -13,6 +13,7 @@ use Rattle.lists.proofs.Tests.{by-cases, and-left, and-right, and-true}
 use Rattle.lists.proofs.Lists.{getD-le-sum, parts-some}
 use Rattle.assignment.specs.Movers.{has, fixed, moves, fixedOn, movesOn, lower, upper}
 use Rattle.assignment.proofs.Loads.{movers-row}
+use Rattle.assignment.proofs.Words.{upper-moves}
 use Rattle.planning.specs.declared.Line.{Line}
 use Rattle.planning.specs.Plan.{rowOf}
 use Rattle.task_state.specs.declared.State.{State}
@@ -22,9 +23,9 @@ use Rattle.task_state.proofs.Facts.{facts, unfinished}
 use Rattle.dispatch.specs.declared.Record.{Record}
 use Rattle.dispatch.specs.Record.{lineAt, stateAt}
 use Rattle.dispatch.specs.Shape.{Good}
-use Rattle.dispatch.specs.Choice.{Waits}
 use Rattle.dispatch.proofs.Held.{held, waits-in}
 use Rattle.dispatch.proofs.Records.{task-sound}
+use Rattle.dispatch.proofs.Search.{WaitsAt}
 
 -- a task with a share on a core that is not upper or lower there is fixed
 row-fixed : (p : ℕ) (row : List ℕ) → has p row ≡ true → upper p row ≡ false → lower p row ≡ false → fixedOn p row ≡ true
@@ -37,11 +38,18 @@ row-fixed p row h u l =
     h
 
 -- a fixed task does not move
-fixed-still : (p : ℕ) (row : List ℕ) → fixedOn p row ≡ true → (upper p row ≡ false) × (lower p row ≡ false)
+pub fixed-still : (p : ℕ) (row : List ℕ) → fixedOn p row ≡ true → (upper p row ≡ false) × (lower p row ≡ false)
 fixed-still p row e =
     let one = eqb-true (parts row) 1 (and-left (fixed row) (has p row) e) in
     let still : moves row ≡ false = le-ltb 1 (parts row) (omega (arith, one)) in
     (rw still, rw still)
+
+-- a lower mover is not upper
+pub lower-only : (p : ℕ) (row : List ℕ) → lower p row ≡ true → upper p row ≡ false
+lower-only p row l =
+    by-cases (upper p row)
+    (λ u. absurd (omega (arith, movers-row p row, ap bit (upper-moves p row u), ap bit u, ap bit l)))
+    (λ u. u)
 
 -- the keys: 0 of an upper mover, 1 of a lower one, or two more than the deadline
 pub data Keyed (ln : Line) (st : State) (k : ℕ) : Type 0 where
@@ -61,15 +69,24 @@ module _ (ln : Line) (st : State) (k : ℕ) where
   pub key-upper : upper (k - 1) (rowOf ln) ≡ true → keyOf ln st k ≡ 0
   key-upper u = rw u
 
-  -- a lower one has at most 1
-  pub key-lower : lower (k - 1) (rowOf ln) ≡ true → keyOf ln st k ≤ 1
-  key-lower l = by-cases (upper (k - 1) (rowOf ln)) (λ u. rw u (omega arith)) (λ u. rw (u, l) (omega arith))
+  -- a mover at most 1
+  pub key-mover : movesOn (k - 1) (rowOf ln) ≡ true → keyOf ln st k ≤ 1
+  key-mover m =
+      by-cases (upper (k - 1) (rowOf ln))
+      (λ u. rw u (omega arith))
+      (λ u. by-cases (lower (k - 1) (rowOf ln))
+      (λ l. rw (u, l) (omega arith))
+      (λ l. absurd (omega (arith, movers-row (k - 1) (rowOf ln), ap bit m, ap bit u, ap bit l))))
+
+  -- a lower one 1
+  pub key-lower : lower (k - 1) (rowOf ln) ≡ true → keyOf ln st k ≡ 1
+  key-lower l = rw (lower-only (k - 1) (rowOf ln) l, l)
 
   -- a fixed task its deadline and two
   pub key-fixed : fixedOn (k - 1) (rowOf ln) ≡ true → keyOf ln st k ≡ 2 + deadlineOf st
   key-fixed f = let s = fixed-still (k - 1) (rowOf ln) f in rw (s .0, s .1)
 
-module _ (r : Record) (g : Good r) (k i : ℕ) (h : i < tasksLimit) (w : Waits r k i) where
+module _ (r : Record) (g : Good r) (k i : ℕ) (h : i < tasksLimit) (w : WaitsAt r k i) where
   -- a task that waits has a share on the core
   waits-share : has (k - 1) (rowOf (lineAt r i)) ≡ true
   waits-share =

@@ -1,68 +1,59 @@
--- Who goes first on a core, in the words of document 01. Tasks are counted from 0 here, cores and answers from 1.
-use Prim.Native.Nat.{ℕ, suc, _-_, _≤_, _<_}
+-- Each core's choice, in the words of document 01. Tasks and cores are counted from 1.
+use Prim.Native.Nat.{ℕ, _-_, _≤_, _<_}
 use mathlib.Core.Path.{_≡_}
-use mathlib.Core.Logic.{_⊎_}
-use mathlib.Core.Bool.{true, false}
-use Rattle.units.specs.Limits.{tasksLimit}
+use mathlib.Core.Bool.{true}
 use Rattle.units.specs.Units.{ticks}
-use Rattle.planning.specs.Plan.{rowOf}
-use Rattle.assignment.specs.Movers.{fixedOn, lower, upper}
-use Rattle.task_state.specs.Key.{deadlineOf, waits, keyOf}
+use Rattle.assignment.specs.Movers.{fixedOn, movesOn, lower, upper}
+use Rattle.planning.specs.Tasks.{taskShares}
+use Rattle.task_state.specs.Key.{deadlineOf, waits}
 use Rattle.dispatch.specs.declared.Record.{Record}
 use Rattle.dispatch.specs.declared.look.Side.the-variants.{Upper, Lower}
 use Rattle.dispatch.specs.declared.look.Choice.{Choice}
 use Rattle.dispatch.specs.declared.look.Choice.the-variants.{Idle, Fixed, Mover}
-use Rattle.dispatch.specs.Record.{lineAt, stateAt}
+use Rattle.dispatch.specs.Record.{stateAt}
 
--- task i's oldest unfinished run is on core k
+-- task i is one of the N tasks, and its oldest unfinished run is on core k
 abbrev pub Waits : Record → ℕ → ℕ → Type 0
-Waits r k i = waits (stateAt r i) k ≡ true
+Waits r k i = (1 ≤ i) × (i ≤ r .plan .count) × (waits (stateAt r (i - 1)) k ≡ true)
 
 -- the deadline of that run
 abbrev pub deadlineAt : Record → ℕ → ℕ
-deadlineAt r i = deadlineOf (stateAt r i)
+deadlineAt r i = deadlineOf (stateAt r (i - 1))
 
--- task i's key on core k
-abbrev pub keyAt : Record → ℕ → ℕ → ℕ
-keyAt r k i = keyOf (lineAt r i) (stateAt r i) k
+-- task i is a fixed task of core k
+abbrev pub FixedOn : Record → ℕ → ℕ → Type 0
+FixedOn r k i = fixedOn (k - 1) (taskShares (r .plan) i) ≡ true
 
--- task i is an upper mover there
+-- a mover there
+abbrev pub MovesOn : Record → ℕ → ℕ → Type 0
+MovesOn r k i = movesOn (k - 1) (taskShares (r .plan) i) ≡ true
+
+-- an upper one
 abbrev pub UpperOn : Record → ℕ → ℕ → Type 0
-UpperOn r k i = upper (k - 1) (rowOf (lineAt r i)) ≡ true
+UpperOn r k i = upper (k - 1) (taskShares (r .plan) i) ≡ true
 
 -- a lower one
 abbrev pub LowerOn : Record → ℕ → ℕ → Type 0
-LowerOn r k i = lower (k - 1) (rowOf (lineAt r i)) ≡ true
+LowerOn r k i = lower (k - 1) (taskShares (r .plan) i) ≡ true
 
--- a fixed task
-abbrev pub FixedOn : Record → ℕ → ℕ → Type 0
-FixedOn r k i = fixedOn (k - 1) (rowOf (lineAt r i)) ≡ true
+-- of two tasks that wait on core k, task j goes before task i
+pub data GoesBefore (r : Record) (k j i : ℕ) : Type 0 where
+  -- movers come before fixed tasks
+  mover-first : MovesOn r k j → FixedOn r k i → GoesBefore r k j i
+  -- upper goes before lower, whatever the deadlines
+  upper-first : UpperOn r k j → LowerOn r k i → GoesBefore r k j i
+  -- fixed tasks go by earliest deadline
+  earliest : FixedOn r k j → FixedOn r k i → deadlineAt r j < deadlineAt r i → GoesBefore r k j i
+  -- lowest task number at a tie
+  lowest : FixedOn r k j → FixedOn r k i → deadlineAt r j ≡ deadlineAt r i → j < i → GoesBefore r k j i
 
--- of the first n tasks, task j has the least key of those that wait on core k, and the lowest number at a tie
-pub record Least (r : Record) (k n j : ℕ) : Type 0 where
-  pub within : j < n
-  pub waiting : Waits r k j
-  pub least : (i : ℕ) → i < n → Waits r k i → keyAt r k j ≤ keyAt r k i
-  pub lowest : (i : ℕ) → i < j → Waits r k i → keyAt r k j < keyAt r k i
+-- task j waits on core k and goes before every other that does
+abbrev pub GoesFirst : Record → ℕ → ℕ → Type 0
+GoesFirst r k j = Waits r k j × ((i : ℕ) → Waits r k i → (i ≡ j → ⊥) → GoesBefore r k j i)
 
--- upper goes before lower, movers before fixed tasks, fixed tasks by earliest deadline, lowest task number at a tie
-pub record First (r : Record) (k j : ℕ) : Type 0 where
-  pub waiting : Waits r k j
-  pub uppers : (i : ℕ) → i < tasksLimit → Waits r k i → UpperOn r k i → UpperOn r k j
-  pub lowers : (i : ℕ) → i < tasksLimit → Waits r k i → LowerOn r k i → UpperOn r k j ⊎ LowerOn r k j
-  pub earliest : (i : ℕ) → i < tasksLimit → Waits r k i → FixedOn r k j → FixedOn r k i × (deadlineAt r j ≤ deadlineAt r i)
-  pub lowest : (i : ℕ) → i < j → Waits r k i → FixedOn r k j → deadlineAt r j < deadlineAt r i
-
--- no task waits on core k
-abbrev pub None : Record → ℕ → Type 0
-None r k = (i : ℕ) → i < tasksLimit → waits (stateAt r i) k ≡ false
-
--- the choice of task j: a mover with its deadline, upper or lower there, or a fixed task with its deadline
-pub data TaskChoice (r : Record) (k j : ℕ) : Choice → Type 0 where
-  as-upper : UpperOn r k j → TaskChoice r k j (Mover (suc j) (ticks (deadlineAt r j)) Upper)
-  as-lower : LowerOn r k j → TaskChoice r k j (Mover (suc j) (ticks (deadlineAt r j)) Lower)
-  as-fixed : FixedOn r k j → TaskChoice r k j (Fixed (suc j) (ticks (deadlineAt r j)))
-
--- no task waits there and the core is idle, or the choice is that of the task that goes first there
-abbrev pub Chosen : Record → ℕ → Choice → Type 0
-Chosen r k x = (None r k × (x ≡ Idle)) ⊎ ((j : ℕ) × (j < r .plan .count) × First r k j × TaskChoice r k j x)
+-- core k's choice: idle, or the task that goes first, a fixed one with its deadline, or a mover with its deadline and whether it is upper or lower there
+pub data Chosen (r : Record) (k : ℕ) : Choice → Type 0 where
+  idle : ((i : ℕ) → Waits r k i → ⊥) → Chosen r k Idle
+  as-fixed : (j : ℕ) → GoesFirst r k j → FixedOn r k j → Chosen r k (Fixed j (ticks (deadlineAt r j)))
+  as-upper : (j : ℕ) → GoesFirst r k j → UpperOn r k j → Chosen r k (Mover j (ticks (deadlineAt r j)) Upper)
+  as-lower : (j : ℕ) → GoesFirst r k j → LowerOn r k j → Chosen r k (Mover j (ticks (deadlineAt r j)) Lower)

@@ -2,7 +2,7 @@
 use Prim.Native.Nat.{ℕ, zero, suc, _+_, _*_, _/_, _%_, _<_}
 use mathlib.Core.Path.{_≡_, refl, sym, ap, _∙_}
 use mathlib.Core.List.{List}
-use native.Mathlib.Nat.{mod-eq-of-lt, mod-self, mul-add-mod-self-right, div-add-mod', add-zero}
+use native.Mathlib.Nat.{mod-eq-of-lt, mod-self, mul-add-mod-self-right, div-add-mod', div-eq-of-lt-le, add-zero}
 use native.Mathlib.Decide.{ℕ-discrete}
 use native.Mathlib.Omega.{arith}
 use borrow.Author.Tests.{eq-eqb, ne-eqb, eqb-true, eqb-false}
@@ -16,7 +16,8 @@ use Rattle.lists.proofs.Lists.{getD-le-sum, zeros-at}
 use Rattle.turn.specs.declared.Turn.{Turn}
 use Rattle.turn.specs.Turn.{more, counted, turnOf, nextTurn}
 use Rattle.turn.proofs.Choice.{choice}
-use Rattle.turn.specs.Runs.{turnAfter, coreOfRun, sent}
+use Rattle.turn.specs.Runs.{turnAfter, coreOfRun}
+use Rattle.turn.proofs.Sent.{sent}
 use Rattle.turn.proofs.Pace.{Pace, pace-start, pace-more, pace-whole}
 
 -- what is known of counts and place after c runs, f p of them on core p + 1
@@ -78,6 +79,13 @@ module _ (w : ℕ) (ss : List ℕ) (pos : 0 < w) (shares : total ss ≡ w) (long
   place-after c =
       let s = state c in
       sym (mod-eq-of-lt (s .below)) ∙ sym (mul-add-mod-self-right (s .cycles) w (turnAfter w ss c .place)) ∙ ap (λ (x : ℕ). x % w) (s .number)
+
+  -- a core's count is that of its runs since the last whole cycle
+  pub counts-after : (c p : ℕ) → c / w * getD ss p 0 + getD (turnAfter w ss c .counts) p 0 ≡ sent w ss (suc p) c
+  counts-after c p =
+      let s = state c in
+      let e : c / w ≡ s .cycles = div-eq-of-lt-le w (omega (arith, s .number)) (omega (arith, s .number, s .below)) in
+      rw e (sym (s .runs p))
 
   -- at place 0 no run is counted
   pub counts-none : (c : ℕ) → turnAfter w ss c .place ≡ 0 → turnAfter w ss c .counts ≡ zeros coresLimit

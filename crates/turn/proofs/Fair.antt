@@ -12,10 +12,10 @@ use Rattle.lists.proofs.Lists.{parts-none}
 use Rattle.lists.proofs.Parts.{parts-split, first-is}
 use Rattle.arith.specs.Ceiling.{ceilDiv}
 use Rattle.arith.proofs.Rounding.{ceil-least}
-use Rattle.turn.proofs.Choice.{open-share, choice}
-use Rattle.turn.specs.Choice.{Chosen}
+use Rattle.turn.proofs.Choice.{Picked, open-share, choice}
 use Rattle.turn.proofs.Counting.{turn-core}
-use Rattle.turn.specs.Runs.{turnAfter, coreOfRun, sent}
+use Rattle.turn.specs.Runs.{turnAfter, coreOfRun}
+use Rattle.turn.proofs.Sent.{sent}
 use Rattle.turn.proofs.Pace.{pace-behind}
 use Rattle.turn.proofs.Cycle.{state}
 
@@ -49,18 +49,18 @@ module _ (w : ℕ) (ss : List ℕ) (pos : 0 < w) (shares : total ss ≡ w) (long
       let turnAfter = near (a + c) p in
       (omega arith, omega arith)
 
-  -- of w runs exactly its share
-  pub whole : (p : ℕ) → sent w ss (suc p) w ≡ getD ss p 0
-  whole p =
-      let n = near w p in
-      let high : sent w ss (suc p) w < getD ss p 0 + 1 = lt-of-mul-lt-mul-right w (omega arith) in
-      let low : getD ss p 0 < sent w ss (suc p) w + 1 = lt-of-mul-lt-mul-right w (omega arith) in
+  -- of w runs exactly its share, and so of any number of cycles
+  pub whole : (q p : ℕ) → sent w ss (suc p) (q * w) ≡ q * getD ss p 0
+  whole q p =
+      let n = near (q * w) p in
+      let high : sent w ss (suc p) (q * w) < q * getD ss p 0 + 1 = lt-of-mul-lt-mul-right w (omega arith) in
+      let low : q * getD ss p 0 < sent w ss (suc p) (q * w) + 1 = lt-of-mul-lt-mul-right w (omega arith) in
       omega arith
 
-  -- the core of a run is the one that document 01 names
-  pub run-chosen : (c : ℕ) → (j : ℕ) × (coreOfRun w ss c ≡ suc j) × Chosen w (turnAfter w ss c .place) ss (turnAfter w ss c .counts) coresLimit j
+  -- the core of a run is the one that the search picks with the counts of its cycle
+  pub run-picked : (c : ℕ) → (j : ℕ) × (coreOfRun w ss c ≡ suc j) × Picked w (turnAfter w ss c .place) ss (turnAfter w ss c .counts) coresLimit j
   unfolding coreOfRun turnAfter
-  run-chosen c =
+  run-picked c =
       let p = state w ss pos shares long c .pace in
       let x = choice w (turnAfter w ss c .place) ss (turnAfter w ss c .counts) pos shares (p .all) (p .same) in
       (x .0, turn-core w (turnAfter w ss c .place) ss (turnAfter w ss c .counts) ∙ x .1, rw long at (x .2))
@@ -68,7 +68,7 @@ module _ (w : ℕ) (ss : List ℕ) (pos : 0 < w) (shares : total ss ≡ w) (long
   -- every run of a task with one positive share goes to its core
   pub fixed : parts ss ≡ 1 → (c : ℕ) → coreOfRun w ss c ≡ firstPart ss + 1
   fixed e c =
-      let x = run-chosen c in
+      let x = run-picked c in
       let h : 0 < getD ss (x .0) 0 = open-share w (turnAfter w ss c .place) ss (turnAfter w ss c .counts) (x .0) (x .2 .opened) in
       let none = parts-none (take (x .0) ss) (omega (arith, parts-split ss (x .0), ap bit (lt-ltb 0 (getD ss (x .0) 0) h))) in
       omega (arith, x .1, first-is ss (x .0) h none)

@@ -4,7 +4,9 @@ pub mod Choice
 pub mod Examples
 pub mod Behind
 pub mod Pace
+pub mod Sent
 pub mod Cycle
 pub mod Fair
+pub mod SincePlan
 pub mod Keeps
 pub mod Turns

@@ -15,8 +15,7 @@ use Rattle.lists.proofs.Tests.{by-cases}
 use Rattle.lists.proofs.Lists.{sum-set, zeros-at, zeros-sum}
 use Rattle.arith.proofs.Rounding.{ceil-least}
 use Rattle.turn.specs.Turn.{duePlace, more}
-use Rattle.turn.proofs.Choice.{open-share}
-use Rattle.turn.specs.Choice.{Open, Chosen}
+use Rattle.turn.proofs.Choice.{OpenAt, Picked, open-share}
 use Rattle.turn.proofs.Behind.{gap, behind, behind-bound, behind-part, behind-more}
 
 -- after t runs of a cycle: the counts sum to t, no core is a whole run ahead, and by any later place no more runs are due than there are places
@@ -40,7 +39,7 @@ gap-closed w s n t e h =
     let q : s * (t + 1 + e) / w * w ≤ s * (t + 1 + e) = div-mul-le-self (s * (t + 1 + e)) w in
     rw (mul-comm (gap w (t + 1 + e) s n) w, mul-sub w (s * (t + 1 + e) / w) n) (omega arith)
 
-module _ (w t : ℕ) (ss ns : List ℕ) (pos : 0 < w) (shares : total ss ≡ w) (p : Pace w t ss ns) (j : ℕ) (c : Chosen w t ss ns (length ss) j) where
+module _ (w t : ℕ) (ss ns : List ℕ) (pos : 0 < w) (shares : total ss ≡ w) (p : Pace w t ss ns) (j : ℕ) (c : Picked w t ss ns (length ss) j) where
   -- with a run more of the chosen core none is a whole run ahead
   ahead-more : (i : ℕ) → getD (more ns j) i 0 * w < getD ss i 0 * (t + 1) + w
   ahead-more i = go (ℕ-discrete i j)
@@ -57,7 +56,7 @@ module _ (w t : ℕ) (ss ns : List ℕ) (pos : 0 < w) (shares : total ss ≡ w) 
       (λ o. is-open (ltb-true _ _ o))
       (λ o. gap-closed w (getD ss i 0) (getD ns i 0) t e (ltb-false _ _ o))
     where
-      is-open : Open w t ss ns i → gap w (t + 1 + e) (getD ss i 0) (getD ns i 0) * w ≤ getD ss i 0 * e
+      is-open : OpenAt w t ss ns i → gap w (t + 1 + e) (getD ss i 0) (getD ns i 0) * w ≤ getD ss i 0 * e
       is-open o =
           by-cases (ltb (getD ns i 0) (getD ss i 0 * (t + 1 + e) / w))
           (λ b.

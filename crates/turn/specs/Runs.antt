@@ -1,8 +1,6 @@
 -- A task's runs counted from a fresh plan: the core of each is a function of the task's shares and of its number alone.
-use Prim.Native.Nat.{ℕ, zero, suc, _+_}
+use Prim.Native.Nat.{ℕ, zero, suc}
 use mathlib.Core.List.{List}
-use lib.Dec.{eqb}
-use Rattle.lists.specs.Lists.{bit}
 use Rattle.turn.specs.declared.Turn.{Turn}
 use Rattle.turn.specs.Turn.{fresh, nextTurn}
 
@@ -14,8 +12,3 @@ turnAfter w ss (suc c) = nextTurn w ss (turnAfter w ss c)
 -- the core of run number c, counted from 0
 unfoldable pub coreOfRun : ℕ → List ℕ → ℕ → ℕ
 coreOfRun w ss c = turnAfter w ss (suc c) .core
-
--- how many of the first c runs go to core p, counted from 1
-unfoldable pub sent : ℕ → List ℕ → ℕ → ℕ → ℕ
-sent w ss p zero = 0
-sent w ss p (suc c) = sent w ss p c + bit (eqb (coreOfRun w ss c) p)
