@@ -1,5 +1,5 @@
 -- Demand 1 over the calls: any calls, in any order, with any numbers. Tasks and cores are counted from 1; a call that is accepted has refusal 0.
-use Prim.Native.Nat.{ℕ, suc, _+_, _-_, _≤_, _<_}
+use Prim.Native.Nat.{ℕ, _+_, _-_, _≤_, _<_}
 use mathlib.Core.Path.{_≡_, refl, sym, ap, _∙_}
 use mathlib.Core.Logic.{_↔_}
 use mathlib.Core.List.{List, [], _∷_, _++_}
@@ -13,11 +13,10 @@ use Rattle.units.specs.Units.{ticks}
 use Rattle.units.specs.Refusals.{refusal}
 use Rattle.units.specs.declared.ticks.Ticks.{Ticks}
 use Rattle.planning.specs.Plan.{line, emptyLine, emptyPlan}
-use Rattle.planning.specs.Tasks.{taskLine, taskWeight, taskShares}
+use Rattle.planning.specs.Tasks.{taskLine}
 use Rattle.task_state.specs.declared.State.{State}
 use Rattle.task_state.specs.State.{run, runAt, runsOf, freshState, noState}
 use Rattle.task_state.specs.Runs.{turnAt, withRun, withoutRun}
-use Rattle.turn.specs.Choice.{Chosen}
 use Rattle.turn.specs.declared.Turn.{Turn}
 use Rattle.dispatch.specs.declared.Record.{Record}
 use Rattle.dispatch.specs.declared.look.Choice.the-variants.{Idle}
@@ -35,7 +34,7 @@ use Rattle.dispatch.proofs.Answers.{release-refused, finish-refused, look-refus
 use Rattle.dispatch.proofs.OneCall.{release-no, finish-no, look-no}
 use Rattle.dispatch.proofs.Exactly.{exactly}
 use Rattle.dispatch.proofs.Always.{always-good, refused-same, accepted-clock, clock-rises, step-plan, plan-same}
-use Rattle.dispatch.proofs.AfterRelease.{release-answered, release-state, release-runs, release-chosen, release-others}
+use Rattle.dispatch.proofs.AfterRelease.{release-answered, release-state, release-runs, release-others}
 use Rattle.dispatch.proofs.AfterFinish.{finish-answered, finish-state, finish-runs, finish-others}
 use Rattle.dispatch.proofs.Never.{never-15}
 use Rattle.dispatch.proofs.Refused.{refused-empty, refused-unsound, unsound-15, unsound-stays}
@@ -102,15 +101,9 @@ module _ (r : Record) (i : ℕ) (t : Ticks) where
     abbrev released : State
     released = taskState (step r (Release i t)) i
 
-    -- release answers the run's core and its deadline, release time plus T
+    -- release answers the run's core, which is the turn rule's (Runs), and its deadline, release time plus T
     pub release-answers : releaseOf r i (t .0) ≡ record { refusal = 0; core = turn .core; deadline = ticks due; next = step r (Release i t) }
     release-answers = release-answered r i t ok
-
-    -- that core is open, with the least due place, lowest core at a tie, by the counts and the place in the turn cycle
-    pub release-core : Shaped r
-        → (k : ℕ) × (turn .core ≡ suc k)
-        × Chosen (taskWeight (r .plan) i) (before .place) (taskShares (r .plan) i) (before .counts) 16 k
-    release-core shaped = release-chosen r i t ok shaped
 
     -- the run stands after the task's unfinished ones
     pub release-adds : Shaped r → runsOf released ≡ runsOf before ++ (run (turn .core) due ∷ [])

@@ -1,5 +1,5 @@
 -- What a release that is taken answers and leaves of the record: a run more of its task, and every other task as it was.
-use Prim.Native.Nat.{ℕ, suc, _+_, _-_, _<_}
+use Prim.Native.Nat.{ℕ, _+_, _-_, _<_}
 use mathlib.Core.Path.{_≡_, refl, ap, sym, _∙_}
 use mathlib.Core.List.{[], _∷_, _++_}
 use native.Mathlib.Decide.{ℕ-discrete}
@@ -7,18 +7,14 @@ use native.Mathlib.Omega.{arith}
 use lib.Seq.{getD-set-same, getD-set-other}
 use Rattle.units.specs.Units.{ticks}
 use Rattle.units.specs.declared.ticks.Ticks.{Ticks}
-use Rattle.planning.specs.Plan.{rowOf}
 use Rattle.planning.specs.Tasks.{taskLine}
 use Rattle.planning.specs.declared.Line.{Line}
-use Rattle.turn.specs.Choice.{Chosen}
 use Rattle.turn.specs.declared.Turn.{Turn}
-use Rattle.turn.proofs.Choice.{turn-choice}
-use Rattle.turn.proofs.Counting.{turn-core}
 use Rattle.task_state.specs.declared.State.{State}
 use Rattle.task_state.specs.State.{run, noState, runsOf}
 use Rattle.task_state.specs.Runs.{turnAt, withRun, takenRun}
 use Rattle.task_state.specs.Tests.{releaseTests}
-use Rattle.task_state.proofs.Facts.{Facts, facts, turnable}
+use Rattle.task_state.proofs.Facts.{Facts, facts}
 use Rattle.task_state.proofs.Passed.{has-room}
 use Rattle.dispatch.specs.declared.Record.{Record}
 use Rattle.dispatch.specs.declared.call.Call.the-variants.{Release}
@@ -28,7 +24,7 @@ use Rattle.dispatch.specs.Shape.{Shaped, Good}
 use Rattle.dispatch.specs.Calls.{callRefusal, step}
 use Rattle.dispatch.specs.Given.{taskState}
 use Rattle.dispatch.proofs.Passed.{Passed, release-passed}
-use Rattle.dispatch.proofs.Records.{task-in, task-lined, task-wide, task-shaped, task-sound}
+use Rattle.dispatch.proofs.Records.{task-in, task-shaped, task-sound}
 use Rattle.dispatch.proofs.Runs.{runs-more}
 use Rattle.dispatch.proofs.Answers.{release-taken}
 use Rattle.dispatch.proofs.OneCall.{release-no}
@@ -91,16 +87,6 @@ module _ (r : Record) (i : ℕ) (t : Ticks) where
       release-runs =
           ap runsOf release-state
           ∙ runs-more ln st (t .0) (task-shaped r good (i - 1) (passed .0 .here)) (has-room ln st (t .0) (passed .1) (sound .few))
-
-      -- its core, counted from 0, is the chosen one
-      pub release-chosen : (k : ℕ) × (turn .core ≡ suc k) × Chosen (ln .weight .0) (st .place) (rowOf ln) (st .counts) 16 k
-      release-chosen =
-          let h = passed .0 .here in
-          let l = task-lined r good (i - 1) h in
-          let can = turnable ln st sound (l .small) (l .shares) in
-          let w = ln .weight .0 in
-          let x = turn-choice w (st .place) (rowOf ln) (st .counts) can (task-wide r good (i - 1) h) (task-shaped r good (i - 1) h .counts) in
-          (x .0, turn-core w (st .place) (rowOf ln) (st .counts) ∙ x .1, x .2)
 
   -- another task's state stays, refused or not
   pub release-others : (j : ℕ) → 0 < j → (j ≡ i → ⊥) → taskState (step r (Release i t)) j ≡ taskState r j
