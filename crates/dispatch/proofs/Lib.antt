@@ -19,3 +19,5 @@ pub mod Waiting
 pub mod Choice
 pub mod Example
 pub mod Started
+pub mod Values
+pub mod Settled

@@ -7,3 +7,4 @@ pub mod Look
 pub mod Shape
 pub mod Calls
 pub mod Choice
+pub mod Values

@@ -4,3 +4,4 @@ pub mod Out
 pub mod Answers
 pub mod Words
 pub mod Examples
+pub mod Settled

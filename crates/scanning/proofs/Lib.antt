@@ -2,3 +2,4 @@ pub mod Digits
 pub mod Fields
 pub mod Words
 pub mod Sought
+pub mod Settled

@@ -4,3 +4,4 @@ pub mod Says
 pub mod Count
 pub mod Examples
 pub mod Answered
+pub mod Settled

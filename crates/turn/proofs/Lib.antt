@@ -8,3 +8,4 @@ pub mod Cycle
 pub mod Fair
 pub mod Keeps
 pub mod Turns
+pub mod Settled
