@@ -19,8 +19,8 @@ use Rattle.dispatch.specs.Release.{takeRelease, refuseRelease, releaseOf
 use Rattle.dispatch.specs.Finish.{takeFinish, refuseFinish, finishOf}
 use Rattle.dispatch.specs.Look.{lookOf}
 use Rattle.dispatch.specs.Calls.{refusalIn, answeredOf}
-use Rattle.dispatch.specs.Choice.{deadlineAt, UpperOn, LowerOn, FixedOn, TaskChoice, as-upper, as-lower, as-fixed}
-use Rattle.dispatch.specs.Values.{choiceKind, choiceTask, choiceDeadline, Values, valuesOf}
+use Rattle.dispatch.specs.Choice.{deadlineAt, UpperOn, LowerOn, FixedOn, First, None, TaskChoice, Chosen, as-upper, as-lower, as-fixed}
+use Rattle.dispatch.specs.Values.{choiceKind, choiceTask, choiceDeadline, valuesOf}
 
 -- the choice of a kind, a task and a deadline
 abbrev told : ℕ → ℕ → ℕ → Choice
@@ -41,17 +41,21 @@ choice-same a b k i d =
     ∙ ap (λ (n : ℕ). told (choiceKind b) (choiceTask b) n) d
     ∙ told-again b
 
--- the first task there is chosen with its deadline, as what it is there
-pub task-chosen : {r : Record} {k j : ℕ} {x : Choice} → TaskChoice r k j x → (choiceTask x ≡ suc j) × (choiceDeadline x ≡ deadlineAt r j)
-task-chosen (as-upper u) = (refl, refl)
-task-chosen (as-lower l) = (refl, refl)
-task-chosen (as-fixed f) = (refl, refl)
+-- a task is chosen with its deadline, as what it is there
+task-told : {r : Record} {k j : ℕ} {x : Choice} → TaskChoice r k j x
+    → (choiceTask x ≡ suc j) × (choiceDeadline x ≡ deadlineAt r j)
+    × (((choiceKind x ≡ 1) × FixedOn r k j) ⊎ (((choiceKind x ≡ 2) × UpperOn r k j) ⊎ ((choiceKind x ≡ 3) × LowerOn r k j)))
+task-told (as-fixed f) = (refl, refl, inl (refl, f))
+task-told (as-upper u) = (refl, refl, inr (inl (refl, u)))
+task-told (as-lower l) = (refl, refl, inr (inr (refl, l)))
 
-pub kind-chosen : {r : Record} {k j : ℕ} {x : Choice} → TaskChoice r k j x
-    → ((choiceKind x ≡ 2) × UpperOn r k j) ⊎ (((choiceKind x ≡ 3) × LowerOn r k j) ⊎ ((choiceKind x ≡ 1) × FixedOn r k j))
-kind-chosen (as-upper u) = inl (refl, u)
-kind-chosen (as-lower l) = inr (inl (refl, l))
-kind-chosen (as-fixed f) = inr (inr (refl, f))
+-- so the choice that document 01 describes, in numbers
+pub chosen-told : {r : Record} {k : ℕ} {x : Choice} → Chosen r k x
+    → (None r k × (choiceKind x ≡ 0))
+    ⊎ ((j : ℕ) × First r k j × (choiceTask x ≡ suc j) × (choiceDeadline x ≡ deadlineAt r j)
+    × (((choiceKind x ≡ 1) × FixedOn r k j) ⊎ (((choiceKind x ≡ 2) × UpperOn r k j) ⊎ ((choiceKind x ≡ 3) × LowerOn r k j))))
+chosen-told (inl n) = inl (n .0, ap choiceKind (n .1))
+chosen-told (inr c) = let t = task-told (c .3) in inr (c .0, c .2, t .0, t .1, t .2)
 
 -- a refusal is the only number that is not 0
 pub refused-alone : (a : Answer) → (refusalIn a ≡ 0 → ⊥)
@@ -80,6 +84,7 @@ module _ (r : Record) (i t : ℕ) where
   pub look-values :
       valuesOf (answeredOf r (Look i (ticks t)) .answer) ≡
       let a = lookOf r i t in
-      record { refusal = a .refusal; core = 0; late = pos 0; kind = choiceKind (a .choice); task = choiceTask (a .choice); deadline = choiceDeadline (a .choice) }
+      let c = a .choice in
+      record { refusal = a .refusal; core = 0; late = pos 0; kind = choiceKind c; task = choiceTask c; deadline = choiceDeadline c }
   unfolding lookOf
   look-values = by-cases (eqb (lookRefusal r i t) 0) (λ e. rw e) (λ e. rw (e, e))

@@ -1,4 +1,4 @@
--- Document 01, "What each public answer must settle". A contract is what a function's `ensures` say, as Rattle reads them: of the arguments, the answer and what was lent, after the call.
+-- Document 01, "What each public answer must settle". A contract speaks of the arguments, the answer and what was lent, after the call.
 use mathlib.Core.Path.{_≡_}
 
 -- any two answers that a contract allows are equal
