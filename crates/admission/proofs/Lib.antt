@@ -12,3 +12,4 @@ pub mod FirstThatApplies
 pub mod Exactly
 pub mod Padded
 pub mod TakenWeights
+pub mod Settled

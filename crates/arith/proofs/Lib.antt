@@ -7,3 +7,4 @@ pub mod Cofactor
 pub mod Within
 pub mod Examples
 pub mod Signed
+pub mod Settled

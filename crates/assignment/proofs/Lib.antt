@@ -19,3 +19,5 @@ pub mod Properties
 pub mod Guarded
 pub mod RowPassed
 pub mod Stands
+pub mod Settled
+pub mod SettledRows

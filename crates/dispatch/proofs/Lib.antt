@@ -25,3 +25,5 @@ pub mod Waiting
 pub mod Choice
 pub mod Example
 pub mod Started
+pub mod Values
+pub mod Settled

@@ -8,3 +8,4 @@ pub mod Shape
 pub mod Calls
 pub mod Choice
 pub mod Given
+pub mod Values

@@ -6,15 +6,12 @@ use task_state::State;
 use units::limits::CLOCK;
 use units::limits::TASKS;
 ghost use mathlib.Core.Path.{_≡_};
-ghost use mathlib.Core.Bool.{true};
 ghost use Rattle.units.specs.Limits.{tasksLimit};
 ghost use Rattle.lists.specs.Below.{allBelow};
-ghost use Rattle.soundness.specs.Plan.{planSound};
 ghost use Rattle.dispatch.specs.Sound.{stateOk, soundOf};
 
 // Each task in use is sound, the others are empty.
 fn states_sound(plan: Plan, states: [State; TASKS]) -> bool
-    requires { ⌜ planSound plan ≡ true ⌝ }
     ensures { λ r. ⌜ r ≡ allBelow tasksLimit (stateOk plan states) ⌝ }
 {
     let count = plan.count;

@@ -3,3 +3,4 @@ pub mod Held
 pub mod Out
 pub mod Answers
 pub mod Examples
+pub mod Settled

@@ -8,3 +8,4 @@ pub mod Reached
 pub mod Words
 pub mod Tasks
 pub mod Formulas
+pub mod Settled

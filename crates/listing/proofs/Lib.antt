@@ -8,3 +8,4 @@ pub mod Shares
 pub mod Line
 pub mod Listing
 pub mod TableFits
+pub mod Settled

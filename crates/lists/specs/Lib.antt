@@ -1,3 +1,4 @@
 pub mod Lists
 pub mod Rows
 pub mod Below
+pub mod Settled

@@ -3,3 +3,4 @@ pub mod Picks
 pub mod Stored
 pub mod Heavier
 pub mod Alike
+pub mod Settled

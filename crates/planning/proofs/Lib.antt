@@ -1,3 +1,4 @@
 pub mod Agreed
 pub mod Answer
 pub mod Filling
+pub mod Settled

@@ -1,3 +1,4 @@
 pub mod Texts
 pub mod Plays
 pub mod Gives
+pub mod Settled

@@ -4,3 +4,4 @@ pub mod Words
 pub mod Sought
 pub mod Written
 pub mod WrittenLines
+pub mod Settled

@@ -13,3 +13,4 @@ pub mod PlannedSound
 pub mod Lined
 pub mod SoundKept
 pub mod PlannedShape
+pub mod Settled

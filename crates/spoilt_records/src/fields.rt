@@ -12,12 +12,12 @@ ghost use Prim.Native.Nat.{_<_};
 ghost use Rattle.spoilt_records.specs.Inner.{lineNumbers, stateNumbers, runNumbers};
 
 // The numbers of a line: cost, period, weight, a share a core.
-pub const LINE: usize = 19;
+pub(crate) const LINE: usize = 19;
 // The numbers of a state: a count a core, place, last release, flag, a core and a deadline a run, unfinished runs.
-pub const STATE: usize = 36;
+pub(crate) const STATE: usize = 36;
 
 // A line with its k-th number, from 0, changed.
-pub fn line_with(line: Line, k: usize, value: u64) -> Line
+pub(crate) fn line_with(line: Line, k: usize, value: u64) -> Line
     requires { ⌜ k < lineNumbers ⌝ }
 {
     let mut next = line;
@@ -57,7 +57,7 @@ fn run_with(state: State, k: usize, value: u64) -> State
 }
 
 // A state with its k-th number, from 0, changed.
-pub fn state_with(state: State, k: usize, value: u64) -> State
+pub(crate) fn state_with(state: State, k: usize, value: u64) -> State
     requires { ⌜ k < stateNumbers ⌝ }
 {
     let mut next = state;

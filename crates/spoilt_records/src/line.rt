@@ -71,7 +71,7 @@ fn put_answer(buf: &mut [u8], at: usize, answer: Answer) -> usize
 }
 
 // The line at the start of a buffer.
-pub fn put_line(buf: &mut [u8], sound: bool, answer: Answer, sum: u64) -> usize
+pub(crate) fn put_line(buf: &mut [u8], sound: bool, answer: Answer, sum: u64) -> usize
     ensures { λ r. ⌜ r ≤ 200 ⌝ }
 {
     let a = put_word(buf, 0, sound as u64);

@@ -20,7 +20,7 @@ const HEAD: usize = 4;
 // The numbers of a task.
 const TASK: usize = LINE + STATE;
 // The numbers of a record.
-pub const NUMBERS: usize = HEAD + TASKS * TASK;
+pub(crate) const NUMBERS: usize = HEAD + TASKS * TASK;
 
 // The line at a place.
 fn line_at(bytes: &[u8], from: usize) -> Line
@@ -51,7 +51,7 @@ fn state_at(bytes: &[u8], from: usize) -> State
 }
 
 // The record at the start of the input.
-pub fn record_of(bytes: &[u8]) -> Record {
+pub(crate) fn record_of(bytes: &[u8]) -> Record {
     let mut lines = [Line::EMPTY; TASKS];
     let mut states = [State::FRESH; TASKS];
     let mut i: usize = 0;
@@ -99,7 +99,7 @@ fn head_with(record: Record, k: usize, value: u64) -> Record {
 }
 
 // A record with its k-th number, from 0, changed.
-pub fn record_with(record: Record, k: usize, value: u64) -> Record
+pub(crate) fn record_with(record: Record, k: usize, value: u64) -> Record
     requires { ⌜ k < recordNumbers ⌝ }
 {
     if k < HEAD {

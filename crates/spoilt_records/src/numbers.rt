@@ -1,14 +1,14 @@
 // What a field of 32 bits takes of a number.
-pub fn low_half(value: u64) -> u32 {
+pub(crate) fn low_half(value: u64) -> u32 {
     (value % 4_294_967_296) as u32
 }
 
 // One of 16 bits.
-pub fn low_quarter(value: u64) -> u16 {
+pub(crate) fn low_quarter(value: u64) -> u16 {
     (value % 65_536) as u16
 }
 
 // One of 8 bits.
-pub fn low_byte(value: u64) -> u8 {
+pub(crate) fn low_byte(value: u64) -> u8 {
     (value % 256) as u8
 }

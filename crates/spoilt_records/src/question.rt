@@ -13,16 +13,16 @@ ghost use Prim.Native.Nat.{_+_, _≤_};
 ghost use Rattle.writing.specs.Inner.{placeLimit};
 
 // The call (0 none, 1 release, 2 finish, 3 look), which number is spoilt (from 1; 0 none) and by what, the call's task or core and time.
-pub struct Question {
-    pub call: u64,
-    pub index: u64,
-    pub value: u64,
-    pub number: u64,
-    pub time: u64,
+pub(crate) struct Question {
+    pub(crate) call: u64,
+    pub(crate) index: u64,
+    pub(crate) value: u64,
+    pub(crate) number: u64,
+    pub(crate) time: u64,
 }
 
 // The question at a place.
-pub fn question_at(bytes: &[u8], at: usize) -> Question
+pub(crate) fn question_at(bytes: &[u8], at: usize) -> Question
     requires { ⌜ at + 32 ≤ placeLimit ⌝ }
 {
     Question {
@@ -35,7 +35,7 @@ pub fn question_at(bytes: &[u8], at: usize) -> Question
 }
 
 // The record that a question asks of. A place past its numbers spoils none.
-pub fn spoilt(record: Record, question: Question) -> Record {
+pub(crate) fn spoilt(record: Record, question: Question) -> Record {
     let index = question.index as usize;
     if index == 0 {
         return record;
@@ -47,7 +47,7 @@ pub fn spoilt(record: Record, question: Question) -> Record {
 }
 
 // The answer to a question of a record that is spoilt already. A call past 3 is none, and no refusal answers it.
-pub fn answer_of(record: Record, question: Question) -> Answered {
+pub(crate) fn answer_of(record: Record, question: Question) -> Answered {
     let number = question.number as usize;
     let time = Ticks(question.time);
     if question.call == 1 {

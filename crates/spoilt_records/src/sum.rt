@@ -109,7 +109,7 @@ fn head_sum(record: Record) -> u64
 }
 
 // The checksum of a record.
-pub fn record_sum(record: Record) -> u64 {
+pub(crate) fn record_sum(record: Record) -> u64 {
     let lines = record.plan.lines;
     let mut sum = head_sum(record);
     let mut i: usize = 0;

@@ -7,3 +7,4 @@ pub mod Answered
 pub mod Written
 pub mod ByForm
 pub mod EveryText
+pub mod Settled

@@ -6,3 +6,4 @@ pub mod Passed
 pub mod Taken
 pub mod Ended
 pub mod Fresh
+pub mod Settled

@@ -7,10 +7,10 @@ use units::limits::CORES;
 use units::limits::RUNS;
 use units::share::Share;
 ghost use mathlib.Core.Path.{_≡_};
-ghost use mathlib.Core.Bool.{true, cond, _&&_};
-ghost use Prim.Native.Nat.{_≤_, _<_};
+ghost use mathlib.Core.Bool.{cond, _&&_};
+ghost use Prim.Native.Nat.{_<_};
 ghost use lib.Dec.{ltb, leb, eqb};
-ghost use Rattle.units.specs.Limits.{coresLimit, periodLimit};
+ghost use Rattle.units.specs.Limits.{coresLimit};
 ghost use Rattle.lists.specs.Lists.{total};
 ghost use Rattle.task_state.specs.Sound.{runEmpty, runsSound, lastSound, stateSound, runsEmpty, stateEmpty};
 
@@ -61,7 +61,6 @@ impl Run {
 impl State {
     // A task has 0 to 8 unfinished runs, each sound; past them all is 0.
     fn runs_sound(self, line: Line) -> bool
-        requires { ⌜ line .period .0 ≤ periodLimit ⌝ }
         ensures { λ r. ⌜ r ≡ runsSound line self ⌝ }
     {
         let live = self.live as usize;
@@ -126,7 +125,6 @@ impl State {
 
     // A task in use is sound, another is empty: both ask what the counts sum to, which is quicker before any branch.
     pub fn ok(self, used: bool, line: Line) -> bool
-        requires { ⌜ (used ≡ true → line .period .0 ≤ periodLimit) ⌝ }
         ensures { λ r. ⌜ r ≡ cond used (stateSound line self) (stateEmpty self) ⌝ }
     {
         let counts = self.counts;

@@ -8,7 +8,7 @@ use listing::listed::list;
 use planning::plan_of;
 use units::ticks::Ticks;
 
-pub fn plan_rounds(cores: u32, table: &[u32], rounds: u64) -> u64 {
+pub(crate) fn plan_rounds(cores: u32, table: &[u32], rounds: u64) -> u64 {
     let mut sum: u64 = 0;
     let mut r: u64 = 0;
     while r < rounds {
@@ -21,7 +21,7 @@ pub fn plan_rounds(cores: u32, table: &[u32], rounds: u64) -> u64 {
     sum
 }
 
-pub fn admit_rounds(cores: u32, table: &[u32], rounds: u64) -> u64 {
+pub(crate) fn admit_rounds(cores: u32, table: &[u32], rounds: u64) -> u64 {
     let mut sum: u64 = 0;
     let mut r: u64 = 0;
     while r < rounds {
@@ -33,7 +33,7 @@ pub fn admit_rounds(cores: u32, table: &[u32], rounds: u64) -> u64 {
     sum
 }
 
-pub fn listing_rounds(held: Record, rounds: u64) -> u64 {
+pub(crate) fn listing_rounds(held: Record, rounds: u64) -> u64 {
     let mut buf = [0u8; 16_384];
     let mut sum: u64 = 0;
     let mut r: u64 = 0;
@@ -46,7 +46,7 @@ pub fn listing_rounds(held: Record, rounds: u64) -> u64 {
 }
 
 // The clock moves, so that no round's test can stand for another's.
-pub fn sound_rounds(held: Record, rounds: u64) -> u64 {
+pub(crate) fn sound_rounds(held: Record, rounds: u64) -> u64 {
     let mut now = held;
     let mut sum: u64 = 0;
     let mut r: u64 = 0;
@@ -59,7 +59,7 @@ pub fn sound_rounds(held: Record, rounds: u64) -> u64 {
     sum
 }
 
-pub fn calls_rounds(first: Record, script: Script, rounds: u64) -> u64 {
+pub(crate) fn calls_rounds(first: Record, script: Script, rounds: u64) -> u64 {
     let mut sum: u64 = 0;
     let mut r: u64 = 0;
     while r < rounds {

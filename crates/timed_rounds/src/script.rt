@@ -13,21 +13,21 @@ ghost use Prim.Native.Nat.{_≤_};
 const CALLS: usize = 2_048;
 
 // One call: 1 release, 2 finish, 3 look; its task or core, and its time.
-pub struct Step {
-    pub kind: u8,
-    pub number: usize,
-    pub time: Ticks,
+pub(crate) struct Step {
+    pub(crate) kind: u8,
+    pub(crate) number: usize,
+    pub(crate) time: Ticks,
 }
 
-pub struct Script {
-    pub steps: [Step; CALLS],
-    pub count: usize,
+pub(crate) struct Script {
+    pub(crate) steps: [Step; CALLS],
+    pub(crate) count: usize,
 }
 
 // The record after a script, and a sum of what its calls answered.
-pub struct Lap {
-    pub next: Record,
-    pub sum: u64,
+pub(crate) struct Lap {
+    pub(crate) next: Record,
+    pub(crate) sum: u64,
 }
 
 fn step_from(kind: u8, number: usize, time: Ticks) -> Step {
@@ -55,7 +55,7 @@ fn step_of(line: CallLine) -> Step {
 }
 
 // The calls of an input.
-pub fn script_of(text: &[u8]) -> Script {
+pub(crate) fn script_of(text: &[u8]) -> Script {
     let mut steps = [Step {
         kind: 0,
         number: 0,
@@ -84,7 +84,7 @@ pub fn script_of(text: &[u8]) -> Script {
 }
 
 // Sums may wrap.
-pub fn add(a: u64, b: u64) -> u64 {
+pub(crate) fn add(a: u64, b: u64) -> u64 {
     std::num::wrapping_add_u64(a, b)
 }
 
@@ -105,7 +105,7 @@ fn few(count: usize) -> usize
 }
 
 // All calls of a script. Of the choices the last alone goes into the sum: a match on each would copy the record once more.
-pub fn lap_all(first: Record, script: Script) -> Lap {
+pub(crate) fn lap_all(first: Record, script: Script) -> Lap {
     let steps = script.steps;
     let count = few(script.count);
     let mut held = first;
@@ -145,7 +145,7 @@ pub fn lap_all(first: Record, script: Script) -> Lap {
 }
 
 // The record after a script.
-pub fn played(first: Record, script: Script) -> Record {
+pub(crate) fn played(first: Record, script: Script) -> Record {
     let answer = lap_all(first, script);
     answer.next
 }

@@ -10,3 +10,4 @@ pub mod Fair
 pub mod SincePlan
 pub mod Keeps
 pub mod Turns
+pub mod Settled

@@ -7,3 +7,4 @@ pub mod Plain
 pub mod SignedBack
 pub mod Examples
 pub mod RefusalTexts
+pub mod Settled

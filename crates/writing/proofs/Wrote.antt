@@ -58,9 +58,9 @@ whole {a} {b} {k} {xs} w h =
     let e : 0 + length xs ≡ length xs = omega arith in
     w .bytes ∙ sets-eq xs a 0 (omega arith) ∙ ap (λ (m : ℕ). xs ++ drop m a) e
 
--- it settles each byte of the buffer and the answer
-pub settled : {a b d : List ℕ} {i j k : ℕ} {xs : List ℕ} → Wrote a i xs b j → Wrote a i xs d k → (b ≡ d) × (j ≡ k)
-settled p q = (p .bytes ∙ sym (q .bytes), p .end ∙ sym (q .end))
+-- it settles the answer and each byte of the buffer
+pub settled : {a b d : List ℕ} {i j k : ℕ} {xs : List ℕ} → Wrote a i xs b j → Wrote a i xs d k → (j ≡ k) × (b ≡ d)
+settled p q = (p .end ∙ sym (q .end), p .bytes ∙ sym (q .bytes))
 
 -- and such a buffer was written so
 pub fitted : {a xs : List ℕ} → length xs ≤ length a → Wrote a 0 xs (xs ++ drop (length xs) a) (length xs)

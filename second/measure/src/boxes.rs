@@ -110,3 +110,49 @@ impl Bench {
         text
     }
 }
+
+#[cfg(test)]
+mod tests {
+    use super::*;
+    use second::record::Record;
+
+    #[test]
+    fn full_box_is_full() {
+        let bench = full();
+        let tasks = bench.table.chunks(2);
+        let sum: u64 = tasks
+            .map(|task| u64::from(task[0]) * (COMMON / u64::from(task[1])))
+            .sum();
+        assert_eq!((bench.tasks(), sum), (64, 16 * COMMON));
+    }
+
+    /// A refused call would be timed as one that does nothing.
+    #[test]
+    fn no_call_is_refused() {
+        let bench = full();
+        for calls in [bench.finishes(8), bench.looks(512)] {
+            let mut record = Record::fresh(bench.cores, &bench.table).expect("the table is taken");
+            for (call, number, time) in calls {
+                let taken = match call {
+                    'r' => record.release(number, time).is_ok(),
+                    'f' => record.finish(number, time).is_ok(),
+                    _ => record.look(number, time).is_ok(),
+                };
+                assert!(taken, "{call} {number} {time}");
+            }
+        }
+    }
+
+    #[test]
+    fn input_has_the_table_and_the_calls() {
+        let bench = Bench {
+            cores: 1,
+            table: vec![1, 2],
+        };
+        let input = bench.input('c', 3, &[('r', 1, 0), ('f', 1, 1), ('l', 1, 2)]);
+        assert_eq!(
+            input,
+            "c 3\n1\n1 2\ncalls\nrelease 1 0\nfinish 1 1\nlook 1 2\n"
+        );
+    }
+}

@@ -24,7 +24,7 @@ returns-2 c =
     sym (rw (le-leb (r .clock .0) clockLimit (c .before .before .before .if1 .left), e))
 
 states-sound-requires : tie.Need-states-sound-requires
-states-sound-requires c κs = sym (c .before .before .plan-sound .ensures) ∙ not-false (c .before .before .plan-sound .result) (c .before .if2 .left)
+states-sound-requires c κs = search needs
 
 returns-3 : tie.Need-returns-3
 unfolding soundOf

@@ -1,6 +1,6 @@
 -- `dispatch::sound::states_sound` meets its contract.
-use Rattle.soundness.proofs.Facts.{period-small}
-use borrow.Author.Tests.{ltb-true, not-true, not-false}
+use borrow.Author.Needs.{needs}
+use borrow.Author.Tests.{not-true, not-false}
 use Rattle.dispatch.specs.Sound.{stateOk}
 use Rattle.lists.proofs.Below.{all-none, all-more, all-fails}
 use Rattle.lists.specs.Below.{allBelow}
@@ -34,10 +34,7 @@ array-copy-out-state : tie.Need-array-copy-out-state Inv-loop μ-loop
 array-copy-out-state c = omega arith
 
 ok-requires : tie.Need-ok-requires Inv-loop μ-loop
-ok-requires c κs =
-    let s = c .before .before .before .before in
-    let i = c .before .before .before .loop .i in
-    λ u. period-small (s .args .t1) (s .pre) i (ltb-true i (s .args .t1 .count) u)
+ok-requires c κs = search needs
 
 returns : tie.Need-returns Inv-loop μ-loop
 returns c =

@@ -25,7 +25,7 @@ last-sound-requires : tie.Need-last-sound-requires
 last-sound-requires c κs = search needs
 
 runs-sound-requires : tie.Need-runs-sound-requires
-runs-sound-requires c κs = c .before .before .before .before .before .before .before .pre (c .before .before .before .if2 .taken)
+runs-sound-requires c κs = search needs
 
 returns-2 : tie.Need-returns-2
 returns-2 c =

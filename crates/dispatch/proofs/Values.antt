@@ -1,0 +1,90 @@
+-- The numbers of an answer: they settle a choice, and each call answers those of its rule.
+use Prim.Native.Nat.{ℕ, suc}
+use mathlib.Core.Path.{_≡_, refl, sym, ap, _∙_}
+use mathlib.Core.Logic.{_⊎_, inl, inr}
+use mathlib.Core.Bool.{cond}
+use lib.Dec.{eqb}
+use lib.IntN.{pos}
+use Rattle.units.specs.Units.{ticks}
+use Rattle.lists.proofs.Tests.{by-cases}
+use Rattle.dispatch.specs.declared.Record.{Record}
+use Rattle.dispatch.specs.declared.look.Side.the-variants.{Upper, Lower}
+use Rattle.dispatch.specs.declared.look.Choice.{Choice}
+use Rattle.dispatch.specs.declared.look.Choice.the-variants.{Idle, Fixed, Mover}
+use Rattle.dispatch.specs.declared.call.Call.the-variants.{Release, Finish, Look}
+use Rattle.dispatch.specs.declared.call.Answer.{Answer}
+use Rattle.dispatch.specs.declared.call.Answer.the-variants.{Refused, Released, Finished, Looked}
+use Rattle.dispatch.specs.Refusals.{lookRefusal, releaseRefusal, finishRefusal}
+use Rattle.dispatch.specs.Release.{takeRelease, refuseRelease, releaseOf}
+use Rattle.dispatch.specs.Finish.{takeFinish, refuseFinish, finishOf}
+use Rattle.dispatch.specs.Look.{lookOf}
+use Rattle.dispatch.specs.Calls.{refusalIn, answeredOf}
+use Rattle.dispatch.specs.Choice.{deadlineAt, UpperOn, LowerOn, FixedOn, First, None, TaskChoice, Chosen, as-upper, as-lower, as-fixed}
+use Rattle.dispatch.specs.Values.{choiceKind, choiceTask, choiceDeadline, valuesOf}
+
+-- the choice of a kind, a task and a deadline
+abbrev told : ℕ → ℕ → ℕ → Choice
+told k i d = cond (eqb k 0) Idle (cond (eqb k 1) (Fixed i (ticks d)) (cond (eqb k 2) (Mover i (ticks d) Upper) (Mover i (ticks d) Lower)))
+
+told-again : (c : Choice) → told (choiceKind c) (choiceTask c) (choiceDeadline c) ≡ c
+told-again Idle = refl
+told-again (Fixed i d) = refl
+told-again (Mover i d Upper) = refl
+told-again (Mover i d Lower) = refl
+
+-- so its numbers settle a choice
+pub choice-same : (a b : Choice) → choiceKind a ≡ choiceKind b → choiceTask a ≡ choiceTask b → choiceDeadline a ≡ choiceDeadline b → a ≡ b
+choice-same a b k i d =
+    sym (told-again a)
+    ∙ ap (λ (n : ℕ). told n (choiceTask a) (choiceDeadline a)) k
+    ∙ ap (λ (n : ℕ). told (choiceKind b) n (choiceDeadline a)) i
+    ∙ ap (λ (n : ℕ). told (choiceKind b) (choiceTask b) n) d
+    ∙ told-again b
+
+-- a task is chosen with its deadline, as what it is there
+task-told : {r : Record} {k j : ℕ} {x : Choice} → TaskChoice r k j x
+    → (choiceTask x ≡ suc j) × (choiceDeadline x ≡ deadlineAt r j)
+    × (((choiceKind x ≡ 1) × FixedOn r k j) ⊎ (((choiceKind x ≡ 2) × UpperOn r k j) ⊎ ((choiceKind x ≡ 3) × LowerOn r k j)))
+task-told (as-fixed f) = (refl, refl, inl (refl, f))
+task-told (as-upper u) = (refl, refl, inr (inl (refl, u)))
+task-told (as-lower l) = (refl, refl, inr (inr (refl, l)))
+
+-- so the choice that document 01 describes, in numbers
+pub chosen-told : {r : Record} {k : ℕ} {x : Choice} → Chosen r k x
+    → (None r k × (choiceKind x ≡ 0))
+    ⊎ ((j : ℕ) × First r k j × (choiceTask x ≡ suc j) × (choiceDeadline x ≡ deadlineAt r j)
+    × (((choiceKind x ≡ 1) × FixedOn r k j) ⊎ (((choiceKind x ≡ 2) × UpperOn r k j) ⊎ ((choiceKind x ≡ 3) × LowerOn r k j))))
+chosen-told (inl n) = inl (n .0, ap choiceKind (n .1))
+chosen-told (inr c) = let t = task-told (c .3) in inr (c .0, c .2, t .0, t .1, t .2)
+
+-- a refusal is the only number that is not 0
+pub refused-alone : (a : Answer) → (refusalIn a ≡ 0 → ⊥)
+    → valuesOf a ≡ record { refusal = refusalIn a; core = 0; late = pos 0; kind = 0; task = 0; deadline = 0 }
+refused-alone (Refused x) h = refl
+refused-alone (Released p d) h = absurd (h refl)
+refused-alone (Finished z) h = absurd (h refl)
+refused-alone (Looked c) h = absurd (h refl)
+
+module _ (r : Record) (i t : ℕ) where
+  -- a release answers the run's core and deadline
+  pub release-values :
+      valuesOf (answeredOf r (Release i (ticks t)) .answer) ≡
+      let a = releaseOf r i t in record { refusal = a .refusal; core = a .core; late = pos 0; kind = 0; task = 0; deadline = a .deadline .0 }
+  unfolding releaseOf takeRelease refuseRelease
+  release-values = by-cases (eqb (releaseRefusal r i t) 0) (λ e. rw e) (λ e. rw (e, e))
+
+  -- a finish the time less the deadline
+  pub finish-values :
+      valuesOf (answeredOf r (Finish i (ticks t)) .answer) ≡
+      let a = finishOf r i t in record { refusal = a .refusal; core = 0; late = a .late; kind = 0; task = 0; deadline = 0 }
+  unfolding finishOf takeFinish refuseFinish
+  finish-values = by-cases (eqb (finishRefusal r i t) 0) (λ e. rw e) (λ e. rw (e, e))
+
+  -- a look the core's choice
+  pub look-values :
+      valuesOf (answeredOf r (Look i (ticks t)) .answer) ≡
+      let a = lookOf r i t in
+      let c = a .choice in
+      record { refusal = a .refusal; core = 0; late = pos 0; kind = choiceKind c; task = choiceTask c; deadline = choiceDeadline c }
+  unfolding lookOf
+  look-values = by-cases (eqb (lookRefusal r i t) 0) (λ e. rw e) (λ e. rw (e, e))

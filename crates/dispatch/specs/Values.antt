@@ -1,0 +1,43 @@
+-- Document 01's number and values for each case of an answer. What a case does not say is 0.
+use Prim.Native.Nat.{ℕ}
+use lib.IntN.{ℤ, pos}
+use Rattle.dispatch.specs.declared.look.Side.the-variants.{Upper, Lower}
+use Rattle.dispatch.specs.declared.look.Choice.{Choice}
+use Rattle.dispatch.specs.declared.look.Choice.the-variants.{Idle, Fixed, Mover}
+use Rattle.dispatch.specs.declared.call.Answer.{Answer}
+use Rattle.dispatch.specs.declared.call.Answer.the-variants.{Refused, Released, Finished, Looked}
+
+-- a choice's kind: idle, a fixed task, an upper mover, a lower mover
+abbrev pub choiceKind : Choice → ℕ
+choiceKind Idle = 0
+choiceKind (Fixed i d) = 1
+choiceKind (Mover i d Upper) = 2
+choiceKind (Mover i d Lower) = 3
+
+-- its task, from 1
+abbrev pub choiceTask : Choice → ℕ
+choiceTask Idle = 0
+choiceTask (Fixed i d) = i
+choiceTask (Mover i d side) = i
+
+-- its deadline
+abbrev pub choiceDeadline : Choice → ℕ
+choiceDeadline Idle = 0
+choiceDeadline (Fixed i d) = d .0
+choiceDeadline (Mover i d side) = d .0
+
+-- every number that a call can answer
+pub record Values : Type 0 where
+  pub refusal : ℕ
+  pub core : ℕ
+  pub late : ℤ
+  pub kind : ℕ
+  pub task : ℕ
+  pub deadline : ℕ
+
+-- a refusal; a run's core and deadline; the time less the deadline; a core's choice
+abbrev pub valuesOf : Answer → Values
+valuesOf (Refused x) = record { refusal = x .no; core = 0; late = pos 0; kind = 0; task = 0; deadline = 0 }
+valuesOf (Released p d) = record { refusal = 0; core = p; late = pos 0; kind = 0; task = 0; deadline = d .0 }
+valuesOf (Finished z) = record { refusal = 0; core = 0; late = z; kind = 0; task = 0; deadline = 0 }
+valuesOf (Looked c) = record { refusal = 0; core = 0; late = pos 0; kind = choiceKind c; task = choiceTask c; deadline = choiceDeadline c }
