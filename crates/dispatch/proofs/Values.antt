@@ -1,5 +1,5 @@
 -- The numbers of an answer: they settle a choice, and each call answers those of its rule.
-use Prim.Native.Nat.{ℕ, suc}
+use Prim.Native.Nat.{ℕ}
 use mathlib.Core.Path.{_≡_, refl, sym, ap, _∙_}
 use mathlib.Core.Logic.{_⊎_, inl, inr}
 use mathlib.Core.Bool.{cond}
@@ -19,12 +19,12 @@ use Rattle.dispatch.specs.Release.{takeRelease, refuseRelease, releaseOf
 use Rattle.dispatch.specs.Finish.{takeFinish, refuseFinish, finishOf}
 use Rattle.dispatch.specs.Look.{lookOf}
 use Rattle.dispatch.specs.Calls.{refusalIn, answeredOf}
-use Rattle.dispatch.specs.Choice.{deadlineAt, UpperOn, LowerOn, FixedOn, First, None, TaskChoice, Chosen, as-upper, as-lower, as-fixed}
+use Rattle.dispatch.specs.Choice.{Waits, deadlineAt, UpperOn, LowerOn, FixedOn, GoesFirst, Chosen, idle, as-upper, as-lower, as-fixed}
 use Rattle.dispatch.specs.Values.{choiceKind, choiceTask, choiceDeadline, valuesOf}
 
 -- the choice of a kind, a task and a deadline
 abbrev told : ℕ → ℕ → ℕ → Choice
-told k i d = cond (eqb k 0) Idle (cond (eqb k 1) (Fixed i (ticks d)) (cond (eqb k 2) (Mover i (ticks d) Upper) (Mover i (ticks d) Lower)))
+told k i d = cond (eqb k 0) Idle (cond (eqb k 1) (Fixed i (ticks d)) (cond (eqb k 2) (Mover i (ticks d) Lower) (Mover i (ticks d) Upper)))
 
 told-again : (c : Choice) → told (choiceKind c) (choiceTask c) (choiceDeadline c) ≡ c
 told-again Idle = refl
@@ -41,21 +41,17 @@ choice-same a b k i d =
     ∙ ap (λ (n : ℕ). told (choiceKind b) (choiceTask b) n) d
     ∙ told-again b
 
--- a task is chosen with its deadline, as what it is there
-task-told : {r : Record} {k j : ℕ} {x : Choice} → TaskChoice r k j x
-    → (choiceTask x ≡ suc j) × (choiceDeadline x ≡ deadlineAt r j)
-    × (((choiceKind x ≡ 1) × FixedOn r k j) ⊎ (((choiceKind x ≡ 2) × UpperOn r k j) ⊎ ((choiceKind x ≡ 3) × LowerOn r k j)))
-task-told (as-fixed f) = (refl, refl, inl (refl, f))
-task-told (as-upper u) = (refl, refl, inr (inl (refl, u)))
-task-told (as-lower l) = (refl, refl, inr (inr (refl, l)))
-
--- so the choice that document 01 describes, in numbers
+-- the choice that document 01 describes, in numbers
 pub chosen-told : {r : Record} {k : ℕ} {x : Choice} → Chosen r k x
-    → (None r k × (choiceKind x ≡ 0))
-    ⊎ ((j : ℕ) × First r k j × (choiceTask x ≡ suc j) × (choiceDeadline x ≡ deadlineAt r j)
-    × (((choiceKind x ≡ 1) × FixedOn r k j) ⊎ (((choiceKind x ≡ 2) × UpperOn r k j) ⊎ ((choiceKind x ≡ 3) × LowerOn r k j))))
-chosen-told (inl n) = inl (n .0, ap choiceKind (n .1))
-chosen-told (inr c) = let t = task-told (c .3) in inr (c .0, c .2, t .0, t .1, t .2)
+    → ((choiceKind x ≡ 0) × ((i : ℕ) → Waits r k i → ⊥))
+    ⊎ (GoesFirst r k (choiceTask x)
+    × (choiceDeadline x ≡ deadlineAt r (choiceTask x))
+    × (((choiceKind x ≡ 1) × FixedOn r k (choiceTask x))
+    ⊎ (((choiceKind x ≡ 2) × LowerOn r k (choiceTask x)) ⊎ ((choiceKind x ≡ 3) × UpperOn r k (choiceTask x)))))
+chosen-told (idle n) = inl (refl, n)
+chosen-told (as-fixed j g f) = inr (g, refl, inl (refl, f))
+chosen-told (as-lower j g l) = inr (g, refl, inr (inl (refl, l)))
+chosen-told (as-upper j g u) = inr (g, refl, inr (inr (refl, u)))
 
 -- a refusal is the only number that is not 0
 pub refused-alone : (a : Answer) → (refusalIn a ≡ 0 → ⊥)

@@ -7,12 +7,12 @@ use Rattle.dispatch.specs.declared.look.Choice.the-variants.{Idle, Fixed
 use Rattle.dispatch.specs.declared.call.Answer.{Answer}
 use Rattle.dispatch.specs.declared.call.Answer.the-variants.{Refused, Released, Finished, Looked}
 
--- a choice's kind: idle, a fixed task, an upper mover, a lower mover
+-- a choice's kind: idle, a fixed task, a lower mover, an upper mover
 abbrev pub choiceKind : Choice → ℕ
 choiceKind Idle = 0
 choiceKind (Fixed i d) = 1
-choiceKind (Mover i d Upper) = 2
-choiceKind (Mover i d Lower) = 3
+choiceKind (Mover i d Lower) = 2
+choiceKind (Mover i d Upper) = 3
 
 -- its task, from 1
 abbrev pub choiceTask : Choice → ℕ
