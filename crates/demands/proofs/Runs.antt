@@ -1,8 +1,8 @@
 -- Each run's core and each core's choice are those of document 01, over any calls after an accepted list, refused ones included.
 -- Tasks and cores are counted from 1, runs from 0.
 use Prim.Native.Nat.{ℕ, _+_, _-_, _*_, _/_, _%_, _≤_, _<_}
-use mathlib.Core.Path.{_≡_, subst}
-use mathlib.Core.Logic.{_↔_}
+use mathlib.Core.Path.{_≡_, sym, subst}
+use mathlib.Core.Logic.{_↔_, _⊎_}
 use mathlib.Core.Bool.{true}
 use mathlib.Core.List.{List}
 use lib.ListN.{length, getD}
@@ -18,15 +18,19 @@ use Rattle.turn.proofs.SincePlan.{goes-to-one}
 use Rattle.dispatch.specs.declared.Record.{Record}
 use Rattle.dispatch.specs.declared.call.Call.{Call}
 use Rattle.dispatch.specs.declared.call.Call.the-variants.{Release, Look}
+use Rattle.dispatch.specs.declared.call.Answer.{Answer}
 use Rattle.dispatch.specs.declared.call.Answer.the-variants.{Released, Looked}
 use Rattle.dispatch.specs.declared.look.Choice.{Choice}
 use Rattle.dispatch.specs.Record.{recordOf, freshOf, stateAt}
 use Rattle.dispatch.specs.Shape.{Good}
 use Rattle.dispatch.specs.Calls.{answeredOf, callRefusal, after, coresOf, sentTo, inARow}
-use Rattle.dispatch.specs.Choice.{Chosen}
+use Rattle.dispatch.specs.Choice.{Waits, deadlineAt, FixedOn, LowerOn, UpperOn, GoesFirst, Chosen}
+use Rattle.dispatch.specs.Values.{Values, valuesOf}
+use Rattle.dispatch.specs.Look.{choiceOf}
 use Rattle.dispatch.proofs.Started.{started}
 use Rattle.dispatch.proofs.Always.{always-good}
-use Rattle.dispatch.proofs.Choice.{look-exactly}
+use Rattle.dispatch.proofs.Choice.{choice-chosen, look-exactly}
+use Rattle.dispatch.proofs.Values.{chosen-told}
 use Rattle.dispatch.proofs.Going.{release-exactly}
 use Rattle.dispatch.proofs.Demand3.{goes-to, of-whole-cycles, place-is, count-is, of-a-fixed}
 use Rattle.demands.proofs.Drawn.{drawn-cores, drawn-task, drawn-good}
@@ -44,6 +48,19 @@ module _ (r : Record) (g : Good r) where
   -- an accepted look at core k answers the choice that document 01 describes, and no other
   pub look-answers : (k : ℕ) (t : Ticks) → callRefusal r (Look k t) ≡ 0 → (x : Choice) → (answeredOf r (Look k t) .answer ≡ Looked x) ↔ Chosen r k x
   look-answers = look-exactly r g
+
+  -- in numbers: kind 0 where nobody waits, else the task that goes first with its deadline, of kind 1 if it is fixed, 2 if a lower and 3 if an upper mover
+  abbrev Tells : ℕ → Values → Type 0
+  Tells k v =
+      ((v .kind ≡ 0) × ((i : ℕ) → Waits r k i → ⊥))
+      ⊎ (GoesFirst r k (v .task)
+      × (v .deadline ≡ deadlineAt r (v .task))
+      × (((v .kind ≡ 1) × FixedOn r k (v .task)) ⊎ (((v .kind ≡ 2) × LowerOn r k (v .task)) ⊎ ((v .kind ≡ 3) × UpperOn r k (v .task)))))
+
+  pub look-numbers : (k : ℕ) (t : Ticks) → callRefusal r (Look k t) ≡ 0 → Tells k (valuesOf (answeredOf r (Look k t) .answer))
+  look-numbers k t ok =
+      let c = choice-chosen r g k in
+      subst (λ (a : Answer). Tells k (valuesOf a)) (sym (look-answers k t ok (choiceOf r k) .1 c)) (chosen-told c)
 
 -- a list m, xs that is taken, and any calls cs on its fresh record
 module _ (m : ℕ) (xs : List ℕ) (ok : freshOf m xs .refusal .no ≡ 0) (cs : List Call) where
