@@ -5,7 +5,6 @@ pub mod Giving
 pub mod Poured
 pub mod Steps
 pub mod Ordered
-pub mod Words
 pub mod Loads
 pub mod CutKeeps
 pub mod Whole
@@ -17,5 +16,3 @@ pub mod Scatter
 pub mod Placed
 pub mod Properties
 pub mod Guarded
-pub mod RowPassed
-pub mod Stands

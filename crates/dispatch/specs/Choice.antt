@@ -6,7 +6,7 @@ use mathlib.Core.Bool.{true, false}
 use Rattle.units.specs.Limits.{tasksLimit}
 use Rattle.units.specs.Units.{ticks}
 use Rattle.planning.specs.Plan.{rowOf}
-use Rattle.assignment.specs.Movers.{fixedOn, lower, upper}
+use Rattle.task_shares.specs.Movers.{fixedOn, lower, upper}
 use Rattle.task_state.specs.Key.{deadlineOf, waits, keyOf}
 use Rattle.dispatch.specs.declared.Record.{Record}
 use Rattle.dispatch.specs.declared.look.Side.the-variants.{Upper, Lower}

@@ -2,7 +2,7 @@
 use units::share::Share;
 ghost use mathlib.Core.Path.{_≡_};
 ghost use lib.Dec.{ltb};
-ghost use Rattle.assignment.specs.Standing.{standingBy};
+ghost use Rattle.task_shares.specs.Standing.{standingBy};
 
 // Without a share there, as a fixed task, as a lower or as an upper mover.
 pub enum Standing {

@@ -11,7 +11,7 @@ use Rattle.lists.specs.Lists.{total, parts, bit}
 use Rattle.lists.proofs.Tests.{by-cases, and-left, and-right, and-true, same-bool}
 use Rattle.lists.proofs.Lists.{parts-le, parts-some}
 use Rattle.lists.proofs.Parts.{parts-split, parts-one, first-le, first-below, first-is}
-use Rattle.assignment.specs.Movers.{has, fixed, moves, firstCore, fixedOn, movesOn, lower, upper}
+use Rattle.task_shares.specs.Movers.{has, fixed, moves, firstCore, fixedOn, movesOn, lower, upper}
 
 not-true : (b : Bool) → not b ≡ true → b ≡ false
 not-true true e = sym e

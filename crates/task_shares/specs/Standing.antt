@@ -4,9 +4,9 @@ use mathlib.Core.Bool.{Bool, cond}
 use mathlib.Core.List.{List}
 use lib.Dec.{ltb, eqb}
 use lib.ListN.{getD}
-use Rattle.assignment.specs.declared.standing.Standing.{Standing}
-use Rattle.assignment.specs.declared.standing.Standing.the-variants.{Absent, Fixed, Lower, Upper}
-use Rattle.assignment.specs.Movers.{moves, firstCore}
+use Rattle.task_shares.specs.declared.standing.Standing.{Standing}
+use Rattle.task_shares.specs.declared.standing.Standing.the-variants.{Absent, Fixed, Lower, Upper}
+use Rattle.task_shares.specs.Movers.{moves, firstCore}
 
 -- a task that moves or not, with a share s on core p and the first core f
 abbrev pub standingBy : Bool → ℕ → ℕ → ℕ → Standing

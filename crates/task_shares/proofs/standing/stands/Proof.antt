@@ -1,8 +1,8 @@
--- `assignment::standing::stands` meets its contract.
+-- `task_shares::standing::stands` meets its contract.
 use native.Mathlib.Omega.{arith}
 use borrow.Author.Tests.{lt-ltb, le-ltb, not-true, not-false, eq-eqb, ne-eqb}
-use Rattle.assignment.proofs.standing.stands.Statement.{statement}
-use Rattle.assignment.proofs.standing.stands.Tie as tie
+use Rattle.task_shares.proofs.standing.stands.Statement.{statement}
+use Rattle.task_shares.proofs.standing.stands.Tie as tie
 
 returns : tie.Need-returns
 returns c = rw (le-ltb 0 (c .before .before .args .share .0) (omega arith))

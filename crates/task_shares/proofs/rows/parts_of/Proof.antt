@@ -1,4 +1,4 @@
--- `assignment::rows::parts_of` meets its contract: the parts that are passed and those that are left are all.
+-- `task_shares::rows::parts_of` meets its contract: the parts that are passed and those that are left are all.
 use Prim.Native.Nat.{_+_, _-_, _≤_}
 use mathlib.Core.Path.{_≡_, ap}
 use mathlib.Core.Logic.{⊎-elim}
@@ -8,9 +8,9 @@ use borrow.Author.Needs.{needs}
 use Rattle.units.specs.Limits.{coresLimit}
 use Rattle.units.specs.Units.{nums}
 use Rattle.lists.specs.Lists.{parts as partsOf}
-use Rattle.assignment.proofs.RowPassed.{parts-more, parts-same, none-left}
-use Rattle.assignment.proofs.rows.parts_of.Statement.{statement}
-use Rattle.assignment.proofs.rows.parts_of.Tie as tie
+use Rattle.task_shares.proofs.RowPassed.{parts-more, parts-same, none-left}
+use Rattle.task_shares.proofs.rows.parts_of.Statement.{statement}
+use Rattle.task_shares.proofs.rows.parts_of.Tie as tie
 
 abbrev Inv-loop : tie.InvT-loop
 Inv-loop shares parts₀ p₀ parts p = (p ≤ coresLimit) × (parts ≤ p) × (parts + partsOf (drop p (nums shares)) ≡ partsOf (nums shares))

@@ -1,4 +1,4 @@
--- `assignment::rows::first_core` meets its contract: the cores that are passed have no share.
+-- `task_shares::rows::first_core` meets its contract: the cores that are passed have no share.
 use Prim.Native.Nat.{_+_, _-_, _≤_}
 use mathlib.Core.Path.{_≡_, ap}
 use native.Mathlib.Omega.{arith}
@@ -7,9 +7,9 @@ use borrow.Author.Needs.{needs}
 use Rattle.units.specs.Limits.{coresLimit}
 use Rattle.units.specs.Units.{nums}
 use Rattle.lists.specs.Lists.{firstPart}
-use Rattle.assignment.proofs.RowPassed.{first-here, first-later, none-left}
-use Rattle.assignment.proofs.rows.first_core.Statement.{statement}
-use Rattle.assignment.proofs.rows.first_core.Tie as tie
+use Rattle.task_shares.proofs.RowPassed.{first-here, first-later, none-left}
+use Rattle.task_shares.proofs.rows.first_core.Statement.{statement}
+use Rattle.task_shares.proofs.rows.first_core.Tie as tie
 
 abbrev Inv-loop : tie.InvT-loop
 Inv-loop shares p₀ p = (p ≤ coresLimit) × (p + firstPart (drop p (nums shares)) ≡ firstPart (nums shares))

@@ -16,11 +16,11 @@ use Rattle.units.proofs.Units.{nums-at}
 use Rattle.lists.specs.Lists.{parts, bit}
 use Rattle.lists.proofs.Tests.{by-cases}
 use Rattle.lists.proofs.Parts.{parts-split}
-use Rattle.assignment.specs.declared.standing.Standing.{Standing}
-use Rattle.assignment.specs.declared.standing.Standing.the-variants.{Absent, Fixed, Lower, Upper}
-use Rattle.assignment.specs.Movers.{has, fixed, moves, firstCore, fixedOn, movesOn, lower, upper}
-use Rattle.assignment.specs.Standing.{standingBy, standingOn}
-use Rattle.assignment.proofs.standing.Standing.{the-type}
+use Rattle.task_shares.specs.declared.standing.Standing.{Standing}
+use Rattle.task_shares.specs.declared.standing.Standing.the-variants.{Absent, Fixed, Lower, Upper}
+use Rattle.task_shares.specs.Movers.{has, fixed, moves, firstCore, fixedOn, movesOn, lower, upper}
+use Rattle.task_shares.specs.Standing.{standingBy, standingOn}
+use Rattle.task_shares.proofs.standing.Standing.{the-type}
 
 -- the tests by the standing
 abbrev pub isUpper : Standing → Bool

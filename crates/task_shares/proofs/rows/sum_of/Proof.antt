@@ -1,5 +1,5 @@
--- `assignment::rows::sum_of` meets its contract.
-use Rattle.assignment.proofs.RowPassed.{sum-more, none-left}
+-- `task_shares::rows::sum_of` meets its contract.
+use Rattle.task_shares.proofs.RowPassed.{sum-more, none-left}
 use Rattle.lists.specs.Lists.{total as sumOf}
 use Rattle.units.specs.Units.{nums}
 use Rattle.units.specs.Limits.{coresLimit}
@@ -8,8 +8,8 @@ use lib.ListN.{length, drop}
 use native.Mathlib.Omega.{arith}
 use mathlib.Core.Path.{_≡_, ap}
 use Prim.Native.Nat.{_+_, _*_, _-_, _≤_}
-use Rattle.assignment.proofs.rows.sum_of.Statement.{statement}
-use Rattle.assignment.proofs.rows.sum_of.Tie as tie
+use Rattle.task_shares.proofs.rows.sum_of.Statement.{statement}
+use Rattle.task_shares.proofs.rows.sum_of.Tie as tie
 
 abbrev Inv-loop : tie.InvT-loop
 Inv-loop shares sum₀ p₀ sum p = (p ≤ coresLimit) × (sum ≤ p * 4294967295) × (sum + sumOf (drop p (nums shares)) ≡ sumOf (nums shares))
