@@ -1,6 +1,6 @@
 // Look.
 use crate::Record;
-use crate::refusals::shared_tests;
+use call_tests::shared_tests;
 use planning::Line;
 use task_state::State;
 use units::refusal::Refusal;

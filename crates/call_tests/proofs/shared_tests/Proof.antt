@@ -1,14 +1,14 @@
--- `dispatch::refusals::shared_tests` meets its contract.
+-- `call_tests::shared_tests` meets its contract.
 use Rattle.units.specs.Limits.{clockLimit}
 use Rattle.units.specs.Refusals.{pastNo}
-use Rattle.dispatch.specs.Refusals.{sharedTests}
+use Rattle.call_tests.specs.Tests.{sharedTests}
 use lib.Dec.{ltb}
 use mathlib.Core.Bool.{cond}
 use mathlib.Core.Path.{_≡_, sym, _∙_}
 use borrow.Author.Needs.{needs}
 use borrow.Author.Tests.{not-false, lt-ltb, le-ltb}
-use Rattle.dispatch.proofs.refusals.shared_tests.Statement.{statement}
-use Rattle.dispatch.proofs.refusals.shared_tests.Tie as tie
+use Rattle.call_tests.proofs.shared_tests.Statement.{statement}
+use Rattle.call_tests.proofs.shared_tests.Tie as tie
 
 returns : tie.Need-returns
 returns c = search needs
