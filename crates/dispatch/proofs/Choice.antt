@@ -13,7 +13,7 @@ use Rattle.lists.proofs.Tests.{by-cases}
 use Rattle.assignment.proofs.Properties.{upper-found, lower-found}
 use Rattle.planning.specs.Plan.{noLine, rowOf, sharesTable}
 use Rattle.dispatch.specs.declared.Record.{Record}
-use Rattle.dispatch.specs.declared.look.Choice.the-variants.{Idle}
+use Rattle.core_choice.specs.declared.Choice.the-variants.{Idle}
 use Rattle.dispatch.specs.Record.{lineAt, stateAt}
 use Rattle.dispatch.specs.Refusals.{lookRefusal}
 use Rattle.dispatch.specs.Look.{bestOf, choiceFor, choiceOf, lookOf}

@@ -9,7 +9,7 @@ use borrow.Author.Tests.{ltb-true, ltb-false}
 use lib.Dec.{ltb, eqb, eqb·suc-zero}
 use Rattle.task_state.specs.Key.{waits}
 use Rattle.dispatch.specs.declared.Record.{Record}
-use Rattle.dispatch.specs.declared.look.Best.{Best}
+use Rattle.core_choice.specs.declared.Best.{Best}
 use Rattle.dispatch.specs.Record.{stateAt}
 use Rattle.dispatch.specs.Look.{bestOf}
 use Rattle.dispatch.specs.Choice.{Waits, keyAt, Least}

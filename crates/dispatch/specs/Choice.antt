@@ -9,9 +9,9 @@ use Rattle.planning.specs.Plan.{rowOf}
 use Rattle.task_shares.specs.Movers.{fixedOn, lower, upper}
 use Rattle.task_state.specs.Key.{deadlineOf, waits, keyOf}
 use Rattle.dispatch.specs.declared.Record.{Record}
-use Rattle.dispatch.specs.declared.look.Side.the-variants.{Upper, Lower}
-use Rattle.dispatch.specs.declared.look.Choice.{Choice}
-use Rattle.dispatch.specs.declared.look.Choice.the-variants.{Idle, Fixed, Mover}
+use Rattle.core_choice.specs.declared.Side.the-variants.{Upper, Lower}
+use Rattle.core_choice.specs.declared.Choice.{Choice}
+use Rattle.core_choice.specs.declared.Choice.the-variants.{Idle, Fixed, Mover}
 use Rattle.dispatch.specs.Record.{lineAt, stateAt}
 
 -- task i's oldest unfinished run is on core k

@@ -1,11 +1,11 @@
--- `dispatch::look::better_task` meets its contract.
+-- `core_choice::better_task` meets its contract.
 use borrow.Author.Tests.{not-true, not-false}
 use mathlib.Core.Bool.{true}
 use mathlib.Core.Path.{_≡_, sym, _∙_}
 use Rattle.task_state.specs.Key.{waits}
 use borrow.Author.Needs.{needs}
-use Rattle.dispatch.proofs.look.better_task.Statement.{statement}
-use Rattle.dispatch.proofs.look.better_task.Tie as tie
+use Rattle.core_choice.proofs.better_task.Statement.{statement}
+use Rattle.core_choice.proofs.better_task.Tie as tie
 
 waits-requires : tie.Need-waits-requires
 waits-requires c κs = search needs

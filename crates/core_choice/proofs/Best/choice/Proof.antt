@@ -1,9 +1,9 @@
--- `dispatch::look::Best::choice` meets its contract.
+-- `core_choice::Best::choice` meets its contract.
 use borrow.Author.Needs.{needs}
 use borrow.Author.Tests.{eq-eqb, ne-eqb}
 use native.Mathlib.Omega.{arith}
-use Rattle.dispatch.proofs.look.Best.choice.Statement.{statement}
-use Rattle.dispatch.proofs.look.Best.choice.Tie as tie
+use Rattle.core_choice.proofs.Best.choice.Statement.{statement}
+use Rattle.core_choice.proofs.Best.choice.Tie as tie
 
 element-copy-out-deadline : tie.Need-element-copy-out-deadline
 element-copy-out-deadline c = search needs
