@@ -2,13 +2,18 @@
 use Rattle.units.specs.Limits.{clockLimit}
 use Rattle.units.specs.Refusals.{pastNo}
 use Rattle.call_tests.specs.Tests.{sharedTests}
-use lib.Dec.{ltb}
-use mathlib.Core.Bool.{cond}
+use Prim.Native.Nat.{ℕ}
+use lib.Dec.{ltb, eqb}
+use mathlib.Core.Bool.{Bool, true, cond, _||_}
 use mathlib.Core.Path.{_≡_, sym, _∙_}
 use borrow.Author.Needs.{needs}
 use borrow.Author.Tests.{not-false, lt-ltb, le-ltb}
 use Rattle.call_tests.proofs.shared_tests.Statement.{statement}
 use Rattle.call_tests.proofs.shared_tests.Tie as tie
+
+-- of a sound record a number 0 or above n is refused
+wrong-number : {sound : Bool} (wrong n i clock t : ℕ) → sound ≡ true → (eqb i 0 || ltb n i) ≡ true → wrong ≡ sharedTests sound wrong n i clock t
+wrong-number wrong n i clock t h e = rw (h, e)
 
 returns : tie.Need-returns
 returns c = search needs
@@ -16,7 +21,7 @@ returns c = search needs
 returns-2 : tie.Need-returns-2
 returns-2 c =
     let s = c .before .before .args in
-    rw (not-false (s .sound) (c .before .if1 .left), c .if2 .taken)
+    wrong-number (s .wrong) (s .n) (s .i) (s .clock .0) (s .time .0) (not-false (s .sound) (c .before .if1 .left)) (c .if2 .taken)
 
 returns-3 : tie.Need-returns-3
 returns-3 c =
