@@ -24,14 +24,8 @@ impl Record {
     {
         let clock = self.clock;
         let sound = self.sound();
-        let no = shared_tests(
-            sound,
-            Refusal::CORE,
-            self.plan.cores as usize,
-            core,
-            clock,
-            time,
-        );
+        let cores = self.plan.cores as usize;
+        let no = shared_tests(sound, Refusal::CORE, cores, core, clock, time);
         let mut choice = Choice::Idle;
         if no == 0 {
             let lines = self.plan.lines;

@@ -1,9 +1,10 @@
 -- `task_state::State::with_run` meets its contract.
-use Prim.Native.Nat.{ℕ, _+_, _≤_}
+use Prim.Native.Nat.{_+_, _≤_}
 use mathlib.Core.Path.{_≡_}
 use native.Mathlib.Omega.{arith}
 use borrow.Author.Needs.{needs}
 use lib.ListN.{length, set}
+use Rattle.units.specs.declared.ticks.Ticks.{Ticks}
 use Rattle.units.specs.Limits.{coresLimit}
 use Rattle.units.specs.Units.{ticks}
 use Rattle.units.proofs.Units.{field-long}
@@ -56,10 +57,10 @@ add-state : tie.Need-add-state
 add-state c = search needs
 
 -- the task with its run, by the turn x
-run-taken : (ln : Line) (st : State) (t : ℕ) {x : Turn} → x ≡ turnAt ln st
-    → let due = ticks (t + ln .period .0) in record {
+run-taken : (ln : Line) (st : State) (time : Ticks) {x : Turn} → x ≡ turnAt ln st
+    → let due = ticks (time .0 + ln .period .0) in record {
       state = record {
-        last = ticks t;
+        last = time;
         deadlines = set (st .deadlines) (st .live) due;
         counts = x .counts;
         place = x .place;
@@ -70,15 +71,15 @@ run-taken : (ln : Line) (st : State) (t : ℕ) {x : Turn} → x ≡ turnAt ln st
       core = x .core;
       deadline = due;
     }
-    ≡ takenRun ln st t
+    ≡ takenRun ln st (time .0)
 unfolding withRun takenRun
-run-taken ln st t e = rw e
+run-taken ln st time e = rw e
 
 returns : tie.Need-returns
 returns c =
     let t = c .before .before .before .before .before in
     let s = t .before .before .before .args in
-    run-taken (s .line) (s .self) (s .time .0) (t .turn-of .ensures)
+    run-taken (s .line) (s .self) (s .time) (t .turn-of .ensures)
 
 pub with-run-spec : {M : Type 1} → statement M
 with-run-spec =
