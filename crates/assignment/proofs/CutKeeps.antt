@@ -10,9 +10,9 @@ use Rattle.lists.specs.Lists.{total}
 use Rattle.lists.specs.Rows.{howMany, column}
 use Rattle.lists.proofs.Tests.{bit-cases}
 use Rattle.lists.proofs.Lists.{sum-take-suc, sum-ends}
-use Rattle.assignment.specs.Movers.{upper, lower}
+use Rattle.task_shares.specs.Movers.{upper, lower}
 use Rattle.assignment.proofs.Poured.{cut, rest, pour}
-use Rattle.assignment.proofs.Words.{upper-says, lower-says}
+use Rattle.task_shares.proofs.Words.{upper-says, lower-says}
 
 -- what it takes of the first p cores
 pub cut-take : (n : ℕ) (rs : List ℕ) (p : ℕ) → total (take p (cut n rs)) ≡ min n (total (take p rs))

@@ -12,7 +12,7 @@ use Rattle.lists.specs.Rows.{top}
 use Rattle.lists.proofs.Tests.{by-cases}
 use Rattle.lists.proofs.Lists.{most-ge}
 use Rattle.assignment.specs.Passes.{whole, less, passes}
-use Rattle.assignment.specs.Movers.{fixedOn, movesOn}
+use Rattle.task_shares.specs.Movers.{fixedOn, movesOn}
 use Rattle.assignment.proofs.Poured.{cut, rest, pour}
 use Rattle.assignment.proofs.CutKeeps.{cut-sum}
 use Rattle.assignment.proofs.Whole.{whole-sum-le, whole-moves, whole-weighs, less-other, less-length}

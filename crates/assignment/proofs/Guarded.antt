@@ -13,9 +13,9 @@ use Rattle.lists.specs.Rows.{top}
 use Rattle.lists.proofs.Tests.{by-cases}
 use Rattle.lists.proofs.Lists.{parts-le}
 use Rattle.lists.proofs.Rows.{top-at}
-use Rattle.assignment.specs.Movers.{movesOn, fixedOn}
+use Rattle.task_shares.specs.Movers.{movesOn, fixedOn}
 use Rattle.assignment.specs.Properties.{rowAt, rowWeight}
-use Rattle.assignment.proofs.Words.{moves-says}
+use Rattle.task_shares.proofs.Words.{moves-says}
 
 -- the heaviest row that passes a test is one of them
 top-has : (f : List ℕ → Bool) (tab : List (List ℕ)) → 0 < top f tab → (k : ℕ) × (f (getD tab k []) ≡ true) × (total (getD tab k []) ≡ top f tab)

@@ -5,7 +5,6 @@ pub mod Giving
 pub mod Poured
 pub mod Steps
 pub mod Ordered
-pub mod Words
 pub mod Loads
 pub mod CutKeeps
 pub mod Whole
@@ -17,7 +16,4 @@ pub mod Scatter
 pub mod Placed
 pub mod Properties
 pub mod Guarded
-pub mod RowPassed
-pub mod Stands
 pub mod Settled
-pub mod SettledRows

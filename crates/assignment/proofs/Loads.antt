@@ -11,8 +11,8 @@ use Rattle.lists.specs.Lists.{total, parts, bit, val}
 use Rattle.lists.specs.Rows.{fold, howMany, column, columnOf}
 use Rattle.lists.proofs.Tests.{by-cases}
 use Rattle.lists.proofs.Lists.{getD-le-sum, parts-some}
-use Rattle.assignment.specs.Movers.{has, firstCore, fixedOn, movesOn, lower, upper}
-use Rattle.assignment.proofs.Words.{fixed-says}
+use Rattle.task_shares.specs.Movers.{has, firstCore, fixedOn, movesOn, lower, upper}
+use Rattle.task_shares.proofs.Words.{fixed-says}
 
 -- a test and its contrary
 bit-split : (a b : Bool) → bit (a && not b) + bit (a && b) ≡ bit a

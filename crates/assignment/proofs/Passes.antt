@@ -12,7 +12,7 @@ use Rattle.lists.specs.Rows.{howMany, column}
 use Rattle.lists.proofs.Tests.{by-cases}
 use Rattle.lists.proofs.Lists.{atMost-is, atMost-lt}
 use Rattle.assignment.specs.Passes.{passTwo, whole, less, passes}
-use Rattle.assignment.specs.Movers.{upper, lower}
+use Rattle.task_shares.specs.Movers.{upper, lower}
 use Rattle.assignment.proofs.Poured.{pour, poured}
 use Rattle.assignment.proofs.Loads.{movers-row}
 use Rattle.assignment.proofs.CutKeeps.{pour-sums, pour-column, pour-uppers, pour-lowers}

@@ -10,7 +10,7 @@ use Rattle.lists.specs.Rows.{howMany, column}
 use Rattle.lists.proofs.Lists.{zeros-at, zeros-sum, zeros-parts}
 use Rattle.ordering.specs.Order.{inOrder}
 use Rattle.assignment.specs.Passes.{sharesOf, rooms}
-use Rattle.assignment.specs.Movers.{fixedOn, movesOn, lower, upper}
+use Rattle.task_shares.specs.Movers.{fixedOn, movesOn, lower, upper}
 use Rattle.assignment.specs.Structure.{CoreKept, Structure}
 use Rattle.assignment.proofs.Loads.{count-movers}
 use Rattle.assignment.proofs.Passes.{passes-column, passes-uppers, passes-lowers}

@@ -14,10 +14,10 @@ use Rattle.lists.proofs.Tests.{by-cases, and-true}
 use Rattle.lists.proofs.Lists.{getD-le-sum, parts-le}
 use Rattle.lists.proofs.Parts.{first-has}
 use Rattle.lists.proofs.Rows.{column-at, columnOf-at, top-at, top-sum, seek-at, seek-only}
-use Rattle.assignment.specs.Movers.{has, moves, firstCore, fixedOn, movesOn, lower, upper}
+use Rattle.task_shares.specs.Movers.{has, moves, firstCore, fixedOn, movesOn, lower, upper}
 use Rattle.assignment.specs.Properties.{rowAt, rowWeight, rowShare, fixedLoad, Halves}
 use Rattle.assignment.specs.Structure.{CoreKept, Structure}
-use Rattle.assignment.proofs.Words.{moves-says, upper-moves, lower-moves, upper-says, lower-says}
+use Rattle.task_shares.proofs.Words.{moves-says, upper-moves, lower-moves, upper-says, lower-says}
 use Rattle.assignment.proofs.Loads.{count-movers, column-movers, column-all}
 
 -- a core that has no share has no mover

@@ -13,7 +13,7 @@ use Rattle.lists.specs.Lists.{zeros, total, parts, val}
 use Rattle.lists.proofs.Tests.{bit-cases, and-true}
 use Rattle.lists.proofs.Lists.{getD-le-sum, zeros-at, zeros-sum, zeros-parts, parts-cons, parts-some}
 use Rattle.assignment.specs.Passes.{whole, less}
-use Rattle.assignment.specs.Movers.{has, fixed, fixedOn, movesOn}
+use Rattle.task_shares.specs.Movers.{has, fixed, fixedOn, movesOn}
 
 -- its share is its weight
 pub whole-sum : (w q : ℕ) (room : List ℕ) → q < length room → total (whole w q room) ≡ w

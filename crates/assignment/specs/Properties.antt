@@ -4,7 +4,7 @@ use mathlib.Core.List.{List, []}
 use lib.ListN.{getD}
 use Rattle.lists.specs.Lists.{total, val, seek}
 use Rattle.lists.specs.Rows.{fold}
-use Rattle.assignment.specs.Movers.{fixedOn, lower, upper}
+use Rattle.task_shares.specs.Movers.{fixedOn, lower, upper}
 
 -- task i's row
 abbrev pub rowAt : List (List ℕ) → ℕ → List ℕ

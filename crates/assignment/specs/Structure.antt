@@ -4,7 +4,7 @@ use mathlib.Core.Path.{_≡_}
 use mathlib.Core.List.{List, map}
 use Rattle.lists.specs.Lists.{total}
 use Rattle.lists.specs.Rows.{howMany, column, top}
-use Rattle.assignment.specs.Movers.{fixedOn, movesOn, lower}
+use Rattle.task_shares.specs.Movers.{fixedOn, movesOn, lower}
 
 -- the shares of one core
 pub record CoreKept (l p : ℕ) (tab : List (List ℕ)) : Type 0 where

@@ -1,7 +1,4 @@
 // The two passes of assignment: which core has how much of which task.
-pub mod rows;
-pub mod standing;
-
 use ordering::Order;
 use ordering::order_of;
 use units::limits::CORES;

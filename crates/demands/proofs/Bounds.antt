@@ -11,8 +11,8 @@ use Rattle.units.specs.Limits.{tasksLimit}
 use Rattle.lists.specs.Lists.{parts, seek}
 use Rattle.arith.specs.Ceiling.{ceilDiv}
 use Rattle.lists.proofs.Tests.{and-left}
-use Rattle.assignment.specs.Movers.{has, fixed, moves, movesOn, firstCore, upper}
-use Rattle.assignment.proofs.Words.{upper-moves}
+use Rattle.task_shares.specs.Movers.{has, fixed, moves, movesOn, firstCore, upper}
+use Rattle.task_shares.proofs.Words.{upper-moves}
 use Rattle.assignment.proofs.Properties.{upper-found}
 use Rattle.planning.specs.declared.Line.{Line}
 use Rattle.planning.specs.declared.Plan.{Plan}

@@ -19,7 +19,7 @@ use Rattle.task_state.specs.State.{run, runAt, runsOf, freshState, noState}
 use Rattle.task_state.specs.Runs.{turnAt, withRun, withoutRun}
 use Rattle.turn.specs.declared.Turn.{Turn}
 use Rattle.dispatch.specs.declared.Record.{Record}
-use Rattle.dispatch.specs.declared.look.Choice.the-variants.{Idle}
+use Rattle.core_choice.specs.declared.Choice.the-variants.{Idle}
 use Rattle.dispatch.specs.declared.call.Call.{Call}
 use Rattle.dispatch.specs.declared.call.Call.the-variants.{Release, Finish, Look}
 use Rattle.dispatch.specs.declared.call.Answer.the-variants.{Refused}

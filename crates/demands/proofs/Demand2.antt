@@ -22,7 +22,7 @@ use Rattle.admission.proofs.Exactly.{exactly, exactly-taken}
 use Rattle.admission.proofs.FirstThatApplies.{given}
 use Rattle.admission.proofs.TakenWeights.{weights-length, common-multiple, common-smallest, common-range, weight-exact, weight-range}
 use Rattle.ordering.specs.Order.{placeOf, inOrder}
-use Rattle.assignment.specs.Movers.{fixed, moves, movesOn, firstCore, upper, lower}
+use Rattle.task_shares.specs.Movers.{fixed, moves, movesOn, firstCore, upper, lower}
 use Rattle.assignment.specs.Load.{byLoad}
 use Rattle.assignment.proofs.Properties.{half, two-thirds}
 use Rattle.planning.specs.declared.Line.{Line}

@@ -14,7 +14,7 @@ use Rattle.lists.specs.Rows.{howMany, column, top}
 use Rattle.lists.proofs.Tests.{by-cases, or-left, or-right}
 use Rattle.lists.proofs.Below.{all-from}
 use Rattle.admission.specs.Weight.{weight}
-use Rattle.assignment.specs.Movers.{movesOn, fixedOn, lower}
+use Rattle.task_shares.specs.Movers.{movesOn, fixedOn, lower}
 use Rattle.assignment.proofs.Guarded.{guarded-exactly}
 use Rattle.planning.specs.Plan.{rowOf, sharesTable}
 use Rattle.soundness.specs.Rules.{numbersIn, commonIs}

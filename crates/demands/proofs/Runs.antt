@@ -9,7 +9,7 @@ use lib.ListN.{length, getD}
 use Rattle.units.specs.declared.ticks.Ticks.{Ticks}
 use Rattle.units.specs.Units.{ticks}
 use Rattle.admission.specs.Words.{tasks}
-use Rattle.assignment.specs.Movers.{fixed, firstCore}
+use Rattle.task_shares.specs.Movers.{fixed, firstCore}
 use Rattle.planning.specs.declared.Plan.{Plan}
 use Rattle.planning.specs.Plan.{planOf}
 use Rattle.planning.specs.Tasks.{taskLine, taskWeight, taskShares, taskShare}
@@ -20,7 +20,7 @@ use Rattle.dispatch.specs.declared.call.Call.{Call}
 use Rattle.dispatch.specs.declared.call.Call.the-variants.{Release, Look}
 use Rattle.dispatch.specs.declared.call.Answer.{Answer}
 use Rattle.dispatch.specs.declared.call.Answer.the-variants.{Released, Looked}
-use Rattle.dispatch.specs.declared.look.Choice.{Choice}
+use Rattle.core_choice.specs.declared.Choice.{Choice}
 use Rattle.dispatch.specs.Record.{recordOf, freshOf, stateAt}
 use Rattle.dispatch.specs.Shape.{Good}
 use Rattle.dispatch.specs.Calls.{answeredOf, callRefusal, after, coresOf, sentTo, inARow}

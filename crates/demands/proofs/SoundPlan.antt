@@ -12,7 +12,7 @@ use Rattle.units.specs.Limits.{tasksLimit}
 use Rattle.lists.specs.Lists.{total}
 use Rattle.lists.proofs.Tests.{by-cases}
 use Rattle.lists.proofs.Rows.{column-at}
-use Rattle.assignment.specs.Movers.{movesOn, fixedOn}
+use Rattle.task_shares.specs.Movers.{movesOn, fixedOn}
 use Rattle.assignment.specs.Structure.{CoreKept}
 use Rattle.assignment.proofs.Guarded.{guarded-exactly}
 use Rattle.assignment.proofs.Properties.{kept}

@@ -11,7 +11,7 @@ use Rattle.units.specs.Limits.{tasksLimit}
 use Rattle.lists.specs.Lists.{val}
 use Rattle.lists.specs.Rows.{howMany}
 use Rattle.lists.proofs.Tests.{by-cases}
-use Rattle.assignment.specs.Movers.{movesOn}
+use Rattle.task_shares.specs.Movers.{movesOn}
 use Rattle.planning.specs.declared.Line.{Line}
 use Rattle.planning.specs.declared.Plan.{Plan}
 use Rattle.planning.specs.Plan.{emptyLine, noLine, rowOf}

@@ -16,7 +16,7 @@ use Rattle.admission.specs.Admission.{planRefusal}
 use Rattle.admission.specs.Words.{tasks, cost, period, commonOf, weightsOf, weightOf}
 use Rattle.admission.specs.Given.{Taken}
 use Rattle.admission.proofs.Exactly.{exactly-taken}
-use Rattle.assignment.specs.Movers.{fixed, moves}
+use Rattle.task_shares.specs.Movers.{fixed, moves}
 use Rattle.assignment.proofs.Properties.{weight-at}
 use Rattle.planning.specs.declared.Line.{Line}
 use Rattle.planning.specs.declared.Plan.{Plan}

@@ -7,7 +7,7 @@ use mathlib.Core.List.{List}
 use lib.ListN.{getD}
 use Rattle.lists.specs.Lists.{total}
 use Rattle.lists.specs.Rows.{howMany, column}
-use Rattle.assignment.specs.Movers.{fixedOn, movesOn, lower}
+use Rattle.task_shares.specs.Movers.{fixedOn, movesOn, lower}
 use Rattle.planning.specs.declared.Line.{Line}
 use Rattle.planning.specs.Plan.{rowOf, sharesTable}
 use Rattle.task_state.specs.declared.Run.{Run}

@@ -11,8 +11,8 @@ use Rattle.task_state.specs.declared.runs.Taken.{Taken}
 use Rattle.task_state.specs.Key.{deadlineOf}
 use Rattle.task_state.specs.Runs.{takenRun, withoutRun}
 use Rattle.dispatch.specs.declared.Record.{Record}
-use Rattle.dispatch.specs.declared.look.Choice.{Choice}
-use Rattle.dispatch.specs.declared.look.Choice.the-variants.{Idle}
+use Rattle.core_choice.specs.declared.Choice.{Choice}
+use Rattle.core_choice.specs.declared.Choice.the-variants.{Idle}
 use Rattle.dispatch.specs.Record.{lineAt, stateAt, moved}
 use Rattle.dispatch.specs.Refusals.{taskTests, lookRefusal, releaseRefusal, finishRefusal}
 use Rattle.dispatch.specs.Release.{takeRelease, refuseRelease, releaseOf}

@@ -13,18 +13,18 @@ use Rattle.units.specs.Limits.{tasksLimit}
 use Rattle.units.specs.declared.ticks.Ticks.{Ticks}
 use Rattle.units.specs.Units.{ticks}
 use Rattle.lists.proofs.Tests.{by-cases}
-use Rattle.assignment.specs.Movers.{lower, upper}
+use Rattle.task_shares.specs.Movers.{lower, upper}
 use Rattle.assignment.proofs.Properties.{upper-found, lower-found}
-use Rattle.assignment.proofs.Words.{upper-moves, lower-moves}
+use Rattle.task_shares.proofs.Words.{upper-moves, lower-moves}
 use Rattle.planning.specs.Plan.{noLine, rowOf, sharesTable}
 use Rattle.planning.specs.Tasks.{taskShares}
 use Rattle.soundness.proofs.SoundKept.{sound-kept}
 use Rattle.dispatch.specs.declared.Record.{Record}
 use Rattle.dispatch.specs.declared.call.Call.the-variants.{Look}
 use Rattle.dispatch.specs.declared.call.Answer.the-variants.{Looked}
-use Rattle.dispatch.specs.declared.look.Side.the-variants.{Upper, Lower}
-use Rattle.dispatch.specs.declared.look.Choice.{Choice}
-use Rattle.dispatch.specs.declared.look.Choice.the-variants.{Idle, Fixed, Mover}
+use Rattle.core_choice.specs.declared.Side.the-variants.{Upper, Lower}
+use Rattle.core_choice.specs.declared.Choice.{Choice}
+use Rattle.core_choice.specs.declared.Choice.the-variants.{Idle, Fixed, Mover}
 use Rattle.dispatch.specs.Record.{lineAt, stateAt}
 use Rattle.dispatch.specs.Look.{bestOf, choiceFor, choiceOf}
 use Rattle.dispatch.specs.Shape.{Good}

@@ -10,7 +10,7 @@ use borrow.Author.Tests.{eqb-true}
 use Rattle.units.specs.Limits.{coresLimit}
 use Rattle.lists.specs.Lists.{total, parts}
 use Rattle.arith.specs.Ceiling.{ceilDiv}
-use Rattle.assignment.specs.Movers.{fixed, firstCore}
+use Rattle.task_shares.specs.Movers.{fixed, firstCore}
 use Rattle.planning.specs.declared.Plan.{Plan}
 use Rattle.planning.specs.Tasks.{taskLine, taskWeight, taskShares, taskShare}
 use Rattle.turn.specs.Runs.{coreOfRun}

@@ -13,7 +13,8 @@ use Rattle.dispatch.specs.declared.call.Call.{Call}
 use Rattle.dispatch.specs.declared.call.Call.the-variants.{Release, Finish, Look}
 use Rattle.dispatch.specs.Record.{lineAt, stateAt}
 use Rattle.dispatch.specs.Sound.{soundOf}
-use Rattle.dispatch.specs.Refusals.{outside, taskTests, lookRefusal, releaseRefusal, finishRefusal}
+use Rattle.call_tests.specs.Tests.{outside}
+use Rattle.dispatch.specs.Refusals.{taskTests, lookRefusal, releaseRefusal, finishRefusal}
 use Rattle.dispatch.specs.Calls.{callRefusal}
 use Rattle.dispatch.specs.Given.{_if_else_, here, past, none, Unsound, Out, Over, Past, Early, Given}
 use Rattle.dispatch.proofs.OneCall.{release-no, finish-no, look-no}

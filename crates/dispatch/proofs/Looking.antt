@@ -11,11 +11,12 @@ use Rattle.lists.proofs.Tests.{by-cases}
 use Rattle.soundness.proofs.Facts.{tasks-few}
 use Rattle.task_state.specs.Key.{deadlineOf, waits}
 use Rattle.dispatch.specs.declared.Record.{Record}
-use Rattle.dispatch.specs.declared.look.Best.{Best}
-use Rattle.dispatch.specs.declared.look.Choice.{Choice}
-use Rattle.dispatch.specs.declared.look.Choice.the-variants.{Idle}
+use Rattle.core_choice.specs.declared.Best.{Best}
+use Rattle.core_choice.specs.declared.Choice.{Choice}
+use Rattle.core_choice.specs.declared.Choice.the-variants.{Idle}
 use Rattle.dispatch.specs.Record.{lineAt, stateAt}
-use Rattle.dispatch.specs.Look.{betterTask, bestOf, choiceBy, choiceFor, choiceOf}
+use Rattle.core_choice.specs.Choice.{betterTask, choiceBy}
+use Rattle.dispatch.specs.Look.{bestOf, choiceFor, choiceOf}
 use Rattle.dispatch.proofs.Held.{Held, waits-in}
 use Rattle.dispatch.proofs.Search.{Found, found}
 

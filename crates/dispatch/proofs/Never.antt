@@ -11,7 +11,8 @@ use Rattle.dispatch.specs.declared.Record.{Record}
 use Rattle.dispatch.specs.declared.call.Call.{Call}
 use Rattle.dispatch.specs.declared.call.Call.the-variants.{Release, Finish, Look}
 use Rattle.dispatch.specs.Record.{lineAt, stateAt}
-use Rattle.dispatch.specs.Refusals.{outside, timeTests, taskTests, lookRefusal, releaseRefusal, finishRefusal}
+use Rattle.call_tests.specs.Tests.{outside, timeTests}
+use Rattle.dispatch.specs.Refusals.{taskTests, lookRefusal, releaseRefusal, finishRefusal}
 use Rattle.dispatch.specs.Shape.{Good}
 use Rattle.dispatch.specs.Calls.{callRefusal, after}
 use Rattle.dispatch.proofs.OneCall.{release-no, finish-no, look-no}

@@ -12,7 +12,8 @@ use Rattle.task_state.specs.Tests.{releaseTests, finishTests}
 use Rattle.dispatch.specs.declared.Record.{Record}
 use Rattle.dispatch.specs.Record.{lineAt, stateAt}
 use Rattle.dispatch.specs.Sound.{soundOf}
-use Rattle.dispatch.specs.Refusals.{outside, timeTests, sharedTests, taskTests, lookRefusal, releaseRefusal, finishRefusal}
+use Rattle.call_tests.specs.Tests.{outside, timeTests, sharedTests}
+use Rattle.dispatch.specs.Refusals.{taskTests, lookRefusal, releaseRefusal, finishRefusal}
 
 -- no refusal: this test does not apply, and none after it
 gate : (b : Bool) (m n : ℕ) → 0 < m → cond b m n ≡ 0 → (b ≡ false) × (n ≡ 0)

@@ -10,7 +10,7 @@ use borrow.Author.Tests.{ltb-true, ltb-false}
 use lib.Dec.{ltb, eqb, eqb·suc-zero}
 use Rattle.task_state.specs.Key.{waits, keyOf}
 use Rattle.dispatch.specs.declared.Record.{Record}
-use Rattle.dispatch.specs.declared.look.Best.{Best}
+use Rattle.core_choice.specs.declared.Best.{Best}
 use Rattle.dispatch.specs.Record.{lineAt, stateAt}
 use Rattle.dispatch.specs.Look.{bestOf}
 

@@ -8,9 +8,9 @@ use lib.IntN.{pos}
 use Rattle.units.specs.Units.{ticks}
 use Rattle.lists.proofs.Tests.{by-cases}
 use Rattle.dispatch.specs.declared.Record.{Record}
-use Rattle.dispatch.specs.declared.look.Side.the-variants.{Upper, Lower}
-use Rattle.dispatch.specs.declared.look.Choice.{Choice}
-use Rattle.dispatch.specs.declared.look.Choice.the-variants.{Idle, Fixed, Mover}
+use Rattle.core_choice.specs.declared.Side.the-variants.{Upper, Lower}
+use Rattle.core_choice.specs.declared.Choice.{Choice}
+use Rattle.core_choice.specs.declared.Choice.the-variants.{Idle, Fixed, Mover}
 use Rattle.dispatch.specs.declared.call.Call.the-variants.{Release, Finish, Look}
 use Rattle.dispatch.specs.declared.call.Answer.{Answer}
 use Rattle.dispatch.specs.declared.call.Answer.the-variants.{Refused, Released, Finished, Looked}

@@ -11,9 +11,9 @@ use Rattle.units.specs.Limits.{tasksLimit}
 use Rattle.lists.specs.Lists.{parts, bit}
 use Rattle.lists.proofs.Tests.{by-cases, and-left, and-right, and-true}
 use Rattle.lists.proofs.Lists.{getD-le-sum, parts-some}
-use Rattle.assignment.specs.Movers.{has, fixed, moves, fixedOn, movesOn, lower, upper}
+use Rattle.task_shares.specs.Movers.{has, fixed, moves, fixedOn, movesOn, lower, upper}
 use Rattle.assignment.proofs.Loads.{movers-row}
-use Rattle.assignment.proofs.Words.{upper-moves}
+use Rattle.task_shares.proofs.Words.{upper-moves}
 use Rattle.planning.specs.declared.Line.{Line}
 use Rattle.planning.specs.Plan.{rowOf}
 use Rattle.task_state.specs.declared.State.{State}

@@ -3,13 +3,13 @@ use Prim.Native.Nat.{ℕ, _-_, _≤_, _<_}
 use mathlib.Core.Path.{_≡_}
 use mathlib.Core.Bool.{true}
 use Rattle.units.specs.Units.{ticks}
-use Rattle.assignment.specs.Movers.{fixedOn, movesOn, lower, upper}
+use Rattle.task_shares.specs.Movers.{fixedOn, movesOn, lower, upper}
 use Rattle.planning.specs.Tasks.{taskShares}
 use Rattle.task_state.specs.Key.{deadlineOf, waits}
 use Rattle.dispatch.specs.declared.Record.{Record}
-use Rattle.dispatch.specs.declared.look.Side.the-variants.{Upper, Lower}
-use Rattle.dispatch.specs.declared.look.Choice.{Choice}
-use Rattle.dispatch.specs.declared.look.Choice.the-variants.{Idle, Fixed, Mover}
+use Rattle.core_choice.specs.declared.Side.the-variants.{Upper, Lower}
+use Rattle.core_choice.specs.declared.Choice.{Choice}
+use Rattle.core_choice.specs.declared.Choice.the-variants.{Idle, Fixed, Mover}
 use Rattle.dispatch.specs.Record.{stateAt}
 
 -- task i is one of the N tasks, and its oldest unfinished run is on core k

@@ -1,25 +1,13 @@
 -- Refusals of release, finish and look, in the order in which they are tested. Task and core numbers are from 1.
 use Prim.Native.Nat.{ℕ, _-_}
-use mathlib.Core.Bool.{Bool, cond, not, _||_}
-use lib.Dec.{ltb, eqb}
-use Rattle.units.specs.Limits.{clockLimit}
-use Rattle.units.specs.Refusals.{taskNo, pastNo, clockNo, coreNo, unsoundNo}
+use mathlib.Core.Bool.{cond}
+use lib.Dec.{eqb}
+use Rattle.units.specs.Refusals.{taskNo, coreNo}
+use Rattle.call_tests.specs.Tests.{sharedTests}
 use Rattle.task_state.specs.Tests.{releaseTests, finishTests}
 use Rattle.dispatch.specs.declared.Record.{Record}
 use Rattle.dispatch.specs.Record.{lineAt, stateAt}
 use Rattle.dispatch.specs.Sound.{soundOf}
-
--- 7 and 13: a number 0 or above n
-abbrev pub outside : ℕ → ℕ → Bool
-outside n i = eqb i 0 || ltb n i
-
--- 12: the call's time is above the clock's limit; 8: it is below the stored clock
-abbrev pub timeTests : ℕ → ℕ → ℕ
-timeTests clock t = cond (ltb clockLimit t) clockNo (cond (ltb t clock) pastNo 0)
-
--- what each call tests first: 15, the number for a wrong task or core i, 12, 8
-abbrev pub sharedTests : Bool → ℕ → ℕ → ℕ → ℕ → ℕ → ℕ
-sharedTests sound wrong n i clock t = cond (not sound) unsoundNo (cond (outside n i) wrong (timeTests clock t))
 
 -- for a task: 15, 7, 12, 8
 unfoldable pub taskTests : Record → ℕ → ℕ → ℕ

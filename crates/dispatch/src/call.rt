@@ -1,6 +1,6 @@
 // A call and its answer as values, for who reads calls from a text.
 use crate::Record;
-use crate::look::Choice;
+use core_choice::Choice;
 use units::refusal::Refusal;
 use units::ticks::Ticks;
 ghost use mathlib.Core.Path.{_≡_};

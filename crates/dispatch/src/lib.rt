@@ -3,7 +3,6 @@ pub mod call;
 pub mod finish;
 pub mod look;
 pub mod plan;
-mod refusals;
 pub mod release;
 pub mod sound;
 

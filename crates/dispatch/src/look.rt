@@ -1,76 +1,19 @@
 // Look.
 use crate::Record;
-use crate::refusals::shared_tests;
-use planning::Line;
-use task_state::State;
+use call_tests::shared_tests;
+use core_choice::Best;
+use core_choice::Choice;
+use core_choice::better_task;
 use units::refusal::Refusal;
 use units::ticks::Ticks;
 ghost use mathlib.Core.Path.{_≡_};
-ghost use Prim.Native.Nat.{_+_, _<_, _≤_};
-ghost use Rattle.units.specs.Limits.{coresLimit, periodLimit, clockLimit};
-ghost use Rattle.task_state.specs.Key.{deadlineOf};
-ghost use Rattle.dispatch.specs.Look.{betterTask, choiceBy, lookOf};
-
-// Where a mover stands on a core: lower on its first core, upper on any other.
-pub enum Side {
-    Upper,
-    Lower,
-}
-
-// A core's choice: idle, a fixed task with its deadline, or a mover with its deadline and side.
-pub enum Choice {
-    Idle,
-    Fixed(usize, Ticks),
-    Mover(usize, Ticks, Side),
-}
-
-// The best task so far, from 1 (0: none), and its key.
-pub struct Best {
-    pub task: usize,
-    pub key: u64,
-}
+ghost use Rattle.dispatch.specs.Look.{lookOf};
 
 // The refusal, or 0 with the choice; and the record after the call.
 pub struct Looked {
     pub refusal: u32,
     pub choice: Choice,
     pub next: Record,
-}
-
-// The better of the best task so far and another, from 1.
-fn better_task(best: Best, task: usize, line: Line, state: State, core: usize) -> Best
-    requires { ⌜ (0 < core) × (core ≤ coresLimit) × (deadlineOf state ≤ clockLimit + periodLimit) ⌝ }
-    ensures { λ r. ⌜ r ≡ betterTask best task line state core ⌝ }
-{
-    if !state.waits(core) {
-        return best;
-    }
-    let key = state.key(line, core);
-    if (best.task == 0) | (key < best.key) {
-        return Best {
-            task: task,
-            key: key,
-        };
-    }
-    best
-}
-
-impl Best {
-    // The choice that it is, by its state.
-    fn choice(self, state: State) -> Choice
-        requires { ⌜ 0 < self .task ⌝ }
-        ensures { λ r. ⌜ r ≡ choiceBy self (deadlineOf state) ⌝ }
-    {
-        let task = self.task;
-        let deadline = state.deadlines[0];
-        if self.key == 0 {
-            return Choice::Mover(task, deadline, Side::Upper);
-        }
-        if self.key == 1 {
-            return Choice::Mover(task, deadline, Side::Lower);
-        }
-        Choice::Fixed(task, deadline)
-    }
 }
 
 impl Record {
@@ -81,14 +24,8 @@ impl Record {
     {
         let clock = self.clock;
         let sound = self.sound();
-        let no = shared_tests(
-            sound,
-            Refusal::CORE,
-            self.plan.cores as usize,
-            core,
-            clock,
-            time,
-        );
+        let cores = self.plan.cores as usize;
+        let no = shared_tests(sound, Refusal::CORE, cores, core, clock, time);
         let mut choice = Choice::Idle;
         if no == 0 {
             let lines = self.plan.lines;

@@ -14,8 +14,8 @@ use Rattle.units.specs.Limits.{coresLimit}
 use Rattle.lists.specs.Lists.{parts, seek}
 use Rattle.lists.specs.Rows.{howMany}
 use Rattle.lists.proofs.Tests.{by-cases}
-use Rattle.assignment.specs.Movers.{moves, firstCore, upper, lower}
-use Rattle.assignment.proofs.Words.{upper-first}
+use Rattle.task_shares.specs.Movers.{moves, firstCore, upper, lower}
+use Rattle.task_shares.proofs.Words.{upper-first}
 use Rattle.assignment.proofs.Properties.{lower-found}
 use Rattle.planning.specs.declared.Line.{Line}
 use Rattle.planning.specs.declared.Plan.{Plan}

@@ -15,7 +15,7 @@ use Rattle.lists.specs.Lists.{parts}
 use Rattle.lists.proofs.Tests.{by-cases}
 use Rattle.lists.proofs.Parts.{first-some}
 use Rattle.lists.proofs.Filled.{Stored, store-next, store-skip}
-use Rattle.assignment.specs.Movers.{movesOn, firstCore, lower}
+use Rattle.task_shares.specs.Movers.{movesOn, firstCore, lower}
 use Rattle.assignment.proofs.Properties.{share-core}
 use Rattle.planning.specs.declared.Line.{Line}
 use Rattle.planning.specs.declared.Plan.{Plan}

@@ -12,7 +12,7 @@ use Rattle.units.specs.Limits.{coresLimit}
 use Rattle.lists.specs.Lists.{parts}
 use Rattle.planning.specs.declared.Line.{Line}
 use Rattle.planning.specs.Plan.{noLine, emptyLine, rowOf}
-use Rattle.assignment.specs.Movers.{upper, lower}
+use Rattle.task_shares.specs.Movers.{upper, lower}
 use Rattle.units.specs.Units.{share, duration}
 use Rattle.lateness.specs.declared.movers.Mover.{Mover}
 use Rattle.lateness.specs.declared.movers.Movers.{Movers}

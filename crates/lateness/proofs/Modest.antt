@@ -8,7 +8,7 @@ use Rattle.units.specs.Limits.{coresLimit, periodLimit}
 use Rattle.lists.specs.Lists.{most}
 use Rattle.lists.proofs.Lists.{most-ge}
 use Rattle.arith.specs.Ceiling.{ceilDiv}
-use Rattle.assignment.specs.Movers.{firstCore, upper, lower}
+use Rattle.task_shares.specs.Movers.{firstCore, upper, lower}
 use Rattle.assignment.proofs.Properties.{halves, one-upper, one-lower, no-mover}
 use Rattle.planning.specs.declared.Line.{Line}
 use Rattle.planning.specs.declared.Plan.{Plan}

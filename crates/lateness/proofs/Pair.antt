@@ -12,7 +12,7 @@ use Rattle.lists.specs.Lists.{zeros, val, seek}
 use Rattle.lists.specs.Rows.{howMany}
 use Rattle.lists.proofs.Tests.{by-cases}
 use Rattle.lists.proofs.Lists.{zeros-at}
-use Rattle.assignment.specs.Movers.{movesOn, firstCore, upper, lower}
+use Rattle.task_shares.specs.Movers.{movesOn, firstCore, upper, lower}
 use Rattle.assignment.proofs.Loads.{count-movers}
 use Rattle.assignment.specs.Properties.{rowShare}
 use Rattle.planning.specs.declared.Line.{Line}

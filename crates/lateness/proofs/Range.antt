@@ -16,7 +16,7 @@ use Rattle.lists.proofs.Tests.{by-cases}
 use Rattle.lists.proofs.Lists.{most-ge}
 use Rattle.arith.specs.Ceiling.{ceilDiv}
 use Rattle.arith.proofs.Rounding.{ceil-least}
-use Rattle.assignment.specs.Movers.{moves, firstCore}
+use Rattle.task_shares.specs.Movers.{moves, firstCore}
 use Rattle.planning.specs.declared.Line.{Line}
 use Rattle.planning.specs.declared.Plan.{Plan}
 use Rattle.planning.specs.Plan.{noLine, rowOf}

@@ -10,7 +10,7 @@ use Rattle.units.specs.Limits.{coresLimit, periodLimit}
 use Rattle.lists.specs.Lists.{zeros, most}
 use Rattle.lists.proofs.Lists.{zeros-most}
 use Rattle.lists.proofs.Filled.{default-after}
-use Rattle.assignment.specs.Movers.{firstCore}
+use Rattle.task_shares.specs.Movers.{firstCore}
 use Rattle.planning.specs.declared.Line.{Line}
 use Rattle.planning.specs.declared.Plan.{Plan}
 use Rattle.planning.specs.Plan.{rowOf}

@@ -13,7 +13,7 @@ use Rattle.units.specs.Limits.{coresLimit, tasksLimit, periodLimit}
 use Rattle.lists.specs.Lists.{zeros, most}
 use Rattle.lists.proofs.Tests.{by-cases}
 use Rattle.lists.proofs.Filled.{Stored, stored-from, store-before}
-use Rattle.assignment.specs.Movers.{moves, firstCore}
+use Rattle.task_shares.specs.Movers.{moves, firstCore}
 use Rattle.planning.specs.declared.Line.{Line}
 use Rattle.planning.specs.declared.Plan.{Plan}
 use Rattle.planning.specs.Plan.{emptyLine, noLine, rowOf}

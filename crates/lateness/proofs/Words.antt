@@ -8,7 +8,7 @@ use lib.IntN.{pos, subℕ, _+ℤ_, _*ℤ_, -ℤ-+ℤ-cancel, +ℤ-assoc}
 use Rattle.lists.specs.Rows.{howMany}
 use Rattle.arith.specs.Ceiling.{ceilDiv}
 use Rattle.arith.proofs.Rounding.{ceil-least}
-use Rattle.assignment.specs.Movers.{movesOn}
+use Rattle.task_shares.specs.Movers.{movesOn}
 use Rattle.planning.specs.declared.Line.{Line}
 use Rattle.planning.specs.Plan.{emptyLine, rowOf}
 use Rattle.lateness.specs.Lateness.{overMovers, shareOn, reachOf, push, reachOn, fixedLate}

@@ -9,7 +9,7 @@ use Rattle.units.specs.Limits.{coresLimit, tasksLimit, periodLimit, commonLimit
 use Rattle.units.specs.declared.share.Share.{Share}
 use Rattle.units.specs.Units.{share, duration}
 use Rattle.arith.specs.Ceiling.{ceilDiv}
-use Rattle.assignment.specs.Movers.{firstCore}
+use Rattle.task_shares.specs.Movers.{firstCore}
 use Rattle.planning.specs.declared.Line.{Line}
 use Rattle.planning.specs.Plan.{rowOf}
 use Rattle.lateness.specs.declared.movers.Mover.{Mover}

@@ -8,7 +8,7 @@ use lib.IntN.{ℤ, pos, subℕ}
 use Rattle.units.specs.Limits.{coresLimit}
 use Rattle.lists.specs.Lists.{val}
 use Rattle.arith.specs.Ceiling.{ceilDiv}
-use Rattle.assignment.specs.Movers.{moves, movesOn, firstCore, upper, lower}
+use Rattle.task_shares.specs.Movers.{moves, movesOn, firstCore, upper, lower}
 use Rattle.planning.specs.declared.Line.{Line}
 use Rattle.planning.specs.declared.Plan.{Plan}
 use Rattle.planning.specs.Plan.{emptyLine, rowOf}

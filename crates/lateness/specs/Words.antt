@@ -6,7 +6,7 @@ use lib.ListN.{getD}
 use lib.IntN.{ℤ, pos, subℕ, natAbs, _+ℤ_}
 use Rattle.lists.specs.Lists.{val}
 use Rattle.arith.specs.Ceiling.{ceilDiv}
-use Rattle.assignment.specs.Movers.{movesOn, upper}
+use Rattle.task_shares.specs.Movers.{movesOn, upper}
 use Rattle.planning.specs.declared.Line.{Line}
 use Rattle.planning.specs.declared.Plan.{Plan}
 use Rattle.planning.specs.Plan.{noLine, rowOf}

@@ -1,14 +1,14 @@
 // The movers of each core.
-use assignment::standing::Standing;
-use assignment::standing::stands;
 use planning::Line;
+use task_shares::standing::Standing;
+use task_shares::standing::stands;
 use units::limits::CORES;
 use units::share::Share;
 use units::ticks::Duration;
 ghost use mathlib.Core.Path.{_≡_};
 ghost use Prim.Native.Nat.{_<_};
 ghost use Rattle.lists.specs.Lists.{parts};
-ghost use Rattle.assignment.specs.Movers.{firstCore, upper};
+ghost use Rattle.task_shares.specs.Movers.{firstCore, upper};
 ghost use Rattle.planning.specs.Plan.{rowOf};
 ghost use Rattle.lateness.specs.Inner.{mover, InFront};
 

@@ -15,7 +15,7 @@ use Rattle.lists.specs.Lists.{total}
 use Rattle.lists.proofs.Tests.{by-cases}
 use Rattle.writing.specs.Decimal.{decimalOf, signedOf}
 use Rattle.writing.proofs.Decimal.{decimal-length}
-use Rattle.assignment.specs.Movers.{moves}
+use Rattle.task_shares.specs.Movers.{moves}
 use Rattle.planning.specs.declared.Line.{Line}
 use Rattle.planning.specs.declared.Plan.{Plan}
 use Rattle.planning.specs.Plan.{noLine, rowOf}

@@ -10,7 +10,7 @@ use Rattle.units.proofs.Units.{nums-length}
 use Rattle.writing.specs.Ascii.{ascii, newline}
 use Rattle.writing.specs.Decimal.{signedOf}
 use Rattle.writing.specs.Field.{field, lineEnd}
-use Rattle.assignment.specs.Movers.{moves}
+use Rattle.task_shares.specs.Movers.{moves}
 use Rattle.planning.specs.declared.Line.{Line}
 use Rattle.planning.proofs.Agreed.{line-same}
 use Rattle.planning.specs.Plan.{rowOf}

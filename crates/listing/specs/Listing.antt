@@ -8,7 +8,7 @@ use lib.ListN.{getD}
 use Rattle.writing.specs.Ascii.{ascii}
 use Rattle.writing.specs.Decimal.{signedOf}
 use Rattle.writing.specs.Field.{field, lineEnd}
-use Rattle.assignment.specs.Movers.{moves}
+use Rattle.task_shares.specs.Movers.{moves}
 use Rattle.planning.specs.declared.Line.{Line}
 use Rattle.planning.specs.declared.Plan.{Plan}
 use Rattle.planning.specs.Plan.{noLine, rowOf}

@@ -1,9 +1,9 @@
 // Writers of the listing's pieces. Each stores as much as fits and answers the index after its text.
-use assignment::rows::first_core;
-use assignment::rows::parts_of;
-use assignment::standing::moves_by;
 use planning::Line;
 use planning::Plan;
+use task_shares::rows::first_core;
+use task_shares::rows::parts_of;
+use task_shares::standing::moves_by;
 use units::limits::CORES;
 use units::limits::TASKS;
 use units::share::Share;

@@ -1,8 +1,8 @@
 -- The equations of a mover's line, as the code meets them.
 use Prim.Native.Nat.{ℕ}
 use mathlib.Core.Path.{_≡_, refl}
-use Rattle.dispatch.specs.declared.look.Side.{Side}
-use Rattle.dispatch.specs.declared.look.Side.the-variants.{Upper, Lower}
+use Rattle.core_choice.specs.declared.Side.{Side}
+use Rattle.core_choice.specs.declared.Side.the-variants.{Upper, Lower}
 use Rattle.player.specs.Answers.{chosenText, moverText}
 
 module _ (i d : ℕ) {side : Side} where

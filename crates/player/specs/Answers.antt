@@ -8,10 +8,10 @@ use Rattle.writing.specs.Field.{field, lineEnd}
 use Rattle.writing.specs.Refused.{refusalText}
 use Rattle.dispatch.specs.declared.call.Answer.{Answer}
 use Rattle.dispatch.specs.declared.call.Answer.the-variants.{Refused, Released, Finished, Looked}
-use Rattle.dispatch.specs.declared.look.Side.{Side}
-use Rattle.dispatch.specs.declared.look.Side.the-variants.{Upper, Lower}
-use Rattle.dispatch.specs.declared.look.Choice.{Choice}
-use Rattle.dispatch.specs.declared.look.Choice.the-variants.{Idle, Fixed, Mover}
+use Rattle.core_choice.specs.declared.Side.{Side}
+use Rattle.core_choice.specs.declared.Side.the-variants.{Upper, Lower}
+use Rattle.core_choice.specs.declared.Choice.{Choice}
+use Rattle.core_choice.specs.declared.Choice.the-variants.{Idle, Fixed, Mover}
 
 -- a task and its deadline, after a word: `fixed 4 deadline 30`
 abbrev pub chosenText : String → ℕ → ℕ → List ℕ

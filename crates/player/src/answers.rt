@@ -1,7 +1,7 @@
 // Writing a call's answer.
+use core_choice::Choice;
+use core_choice::Side;
 use dispatch::call::Answer;
-use dispatch::look::Choice;
-use dispatch::look::Side;
 use units::ticks::Ticks;
 use writing::NEWLINE;
 use writing::put_byte;

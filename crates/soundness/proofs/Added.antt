@@ -11,8 +11,8 @@ use Rattle.lists.specs.Lists.{total, parts, bit, val}
 use Rattle.lists.proofs.Tests.{by-cases}
 use Rattle.lists.proofs.Lists.{getD-le-sum, parts-le}
 use Rattle.lists.proofs.Parts.{parts-split, parts-one, first-some}
-use Rattle.assignment.specs.Movers.{has, moves, firstCore, fixedOn, movesOn, lower}
-use Rattle.assignment.proofs.Stands.{moves-stands, lower-stands, fixed-stands}
+use Rattle.task_shares.specs.Movers.{has, moves, firstCore, fixedOn, movesOn, lower}
+use Rattle.task_shares.proofs.Stands.{moves-stands, lower-stands, fixed-stands}
 use Rattle.soundness.specs.declared.sums.Sums.{Sums}
 use Rattle.soundness.specs.Inner.{loadAt, fixedAt, moversAt, firstsAt, heaviestAt, SumsAt, OneMore}
 

@@ -16,7 +16,7 @@ use Rattle.lists.specs.Lists.{total, bit, val}
 use Rattle.lists.proofs.Tests.{by-cases}
 use Rattle.lists.proofs.Lists.{getD-le-sum}
 use Rattle.lists.proofs.Filled.{Stored, stored-none, store-next, store-skip}
-use Rattle.assignment.specs.Movers.{moves, firstCore}
+use Rattle.task_shares.specs.Movers.{moves, firstCore}
 use Rattle.soundness.specs.declared.sums.Sums.{Sums}
 use Rattle.soundness.specs.Inner.{loadAt, fixedAt, moversAt, firstsAt, heaviestAt, OneMore, AtMostAllTasks}
 use Rattle.soundness.proofs.Added.{fixed-more, mover-more}

@@ -24,7 +24,7 @@ use Rattle.admission.specs.Given.{Taken}
 use Rattle.admission.proofs.Exactly.{exactly-taken}
 use Rattle.admission.proofs.Padded.{padded-at}
 use Rattle.admission.proofs.TakenWeights.{weights-at}
-use Rattle.assignment.specs.Movers.{movesOn, fixedOn, lower}
+use Rattle.task_shares.specs.Movers.{movesOn, fixedOn, lower}
 use Rattle.assignment.specs.Passes.{sharesOf, rooms}
 use Rattle.assignment.specs.Structure.{CoreKept}
 use Rattle.planning.specs.declared.Line.{Line}

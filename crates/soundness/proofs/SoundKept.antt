@@ -13,7 +13,7 @@ use Rattle.units.proofs.Units.{nums-long}
 use Rattle.lists.specs.Lists.{total, zeros}
 use Rattle.lists.specs.Rows.{howMany, column, top}
 use Rattle.lists.proofs.Tests.{by-cases, and-left, and-right}
-use Rattle.assignment.specs.Movers.{fixedOn, movesOn, lower}
+use Rattle.task_shares.specs.Movers.{fixedOn, movesOn, lower}
 use Rattle.assignment.specs.Structure.{CoreKept, Structure}
 use Rattle.planning.specs.declared.Line.{Line}
 use Rattle.planning.specs.declared.Plan.{Plan}

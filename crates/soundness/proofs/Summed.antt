@@ -18,7 +18,7 @@ use Rattle.lists.specs.Lists.{zeros, total}
 use Rattle.lists.specs.Rows.{howMany, column}
 use Rattle.lists.proofs.Tests.{by-cases, bit-cases}
 use Rattle.lists.proofs.Lists.{getD-le-sum, zeros-at}
-use Rattle.assignment.specs.Movers.{movesOn, lower}
+use Rattle.task_shares.specs.Movers.{movesOn, lower}
 use Rattle.planning.specs.declared.Plan.{Plan}
 use Rattle.planning.specs.Plan.{noLine, rowOf, sharesTable}
 use Rattle.soundness.specs.declared.sums.Sums.{Sums}

@@ -10,7 +10,7 @@ use Rattle.units.specs.Limits.{coresLimit, tasksLimit, commonLimit}
 use Rattle.units.specs.Units.{share}
 use Rattle.lists.specs.Rows.{howMany, column, top}
 use Rattle.arith.specs.Divisor.{gcd}
-use Rattle.assignment.specs.Movers.{fixedOn, movesOn, lower}
+use Rattle.task_shares.specs.Movers.{fixedOn, movesOn, lower}
 use Rattle.soundness.specs.declared.sums.Sums.{Sums}
 
 -- of core p: its load

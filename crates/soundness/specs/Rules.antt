@@ -9,7 +9,7 @@ use Rattle.lists.specs.Lists.{total}
 use Rattle.lists.specs.Rows.{howMany, column, top}
 use Rattle.arith.specs.Period.{common}
 use Rattle.admission.specs.Weight.{weight}
-use Rattle.assignment.specs.Movers.{fixedOn, movesOn, lower}
+use Rattle.task_shares.specs.Movers.{fixedOn, movesOn, lower}
 use Rattle.planning.specs.declared.Line.{Line}
 use Rattle.planning.specs.declared.Plan.{Plan}
 use Rattle.planning.specs.Plan.{rowOf}

@@ -1,6 +1,6 @@
 // The rules for one task's line.
-use assignment::rows::sum_of;
 use planning::Line;
+use task_shares::rows::sum_of;
 use units::limits::PERIOD;
 ghost use mathlib.Core.Bool.{true};
 ghost use mathlib.Core.Path.{_≡_};

@@ -1,8 +1,8 @@
 // What the tasks put on each core, summed up task by task.
-use assignment::rows::first_core;
-use assignment::rows::parts_of;
-use assignment::standing::moves_by;
 use planning::Line;
+use task_shares::rows::first_core;
+use task_shares::rows::parts_of;
+use task_shares::standing::moves_by;
 use units::limits::CORES;
 use units::share::Share;
 ghost use mathlib.Core.Path.{_≡_};
@@ -11,7 +11,7 @@ ghost use Prim.Native.Nat.{_≤_, max};
 ghost use Rattle.units.specs.Limits.{commonLimit};
 ghost use Rattle.units.specs.Units.{nums};
 ghost use Rattle.lists.specs.Lists.{total};
-ghost use Rattle.assignment.specs.Movers.{moves};
+ghost use Rattle.task_shares.specs.Movers.{moves};
 ghost use Rattle.planning.specs.Plan.{rowOf};
 ghost use Rattle.soundness.specs.Inner.{AtMostAllTasks, OneMore};
 

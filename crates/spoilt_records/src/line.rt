@@ -1,7 +1,7 @@
 // An answer's line.
+use core_choice::Choice;
+use core_choice::Side;
 use dispatch::call::Answer;
-use dispatch::look::Choice;
-use dispatch::look::Side;
 use writing::BLANK;
 use writing::NEWLINE;
 use writing::put_byte;

@@ -15,7 +15,8 @@ use Rattle.planning.specs.Plan.{rowOf}
 use Rattle.turn.specs.Inner.{Turnable}
 use Rattle.task_state.specs.declared.State.{State}
 use Rattle.task_state.specs.State.{runAt}
-use Rattle.task_state.specs.Sound.{runEmpty, runRule, runsSound, turnSound, lastSound, stateSound}
+use Rattle.stored_runs.specs.Run.{runEmpty}
+use Rattle.task_state.specs.Sound.{runRule, runsSound, turnSound, lastSound, stateSound}
 use Rattle.task_state.specs.Key.{deadlineOf}
 use Rattle.task_state.proofs.RunFacts.{RunFacts, run-facts}
 

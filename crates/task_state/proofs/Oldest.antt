@@ -26,14 +26,16 @@ module _ {A : Type 0} (none : A) where
   next-up [] k = none-last [] k
   next-up (x ∷ xs) k = none-last xs k
 
+  -- seven move up and none comes last
+  abbrev pub movedUp : List A → List A
+  movedUp xs = getD xs 1 none ∷ getD xs 2 none ∷ getD xs 3 none ∷ getD xs 4 none ∷ getD xs 5 none ∷ getD xs 6 none ∷ getD xs 7 none ∷ none ∷ []
+
   module _ (xs : List A) (e : length xs ≡ runsLimit) where
     -- the length stays
     pub up-long : length (drop 1 xs ++ (none ∷ [])) ≡ runsLimit
     up-long = length-append (drop 1 xs) (none ∷ []) ∙ simp length-drop (omega (arith, e))
 
-    -- seven move up and none comes last
-    pub moved-up : drop 1 xs ++ (none ∷ [])
-        ≡ getD xs 1 none ∷ getD xs 2 none ∷ getD xs 3 none ∷ getD xs 4 none ∷ getD xs 5 none ∷ getD xs 6 none ∷ getD xs 7 none ∷ none ∷ []
+    pub moved-up : drop 1 xs ++ (none ∷ []) ≡ movedUp xs
     moved-up =
         rw (
           drop-cons xs 1 none (omega arith),

@@ -9,7 +9,7 @@ use Rattle.units.specs.Limits.{coresLimit, clockLimit}
 use Rattle.lists.proofs.Tests.{and-left, and-right}
 use Rattle.planning.specs.declared.Line.{Line}
 use Rattle.planning.specs.Plan.{rowOf}
-use Rattle.task_state.specs.declared.Run.{Run}
+use Rattle.stored_runs.specs.declared.Run.{Run}
 use Rattle.task_state.specs.Sound.{runSound}
 
 pub record RunFacts (ln : Line) (r : Run) : Type 0 where

@@ -16,7 +16,7 @@ use Rattle.planning.specs.Plan.{rowOf}
 use Rattle.turn.specs.Inner.{Turnable}
 use Rattle.turn.proofs.Keeps.{Kept, turn-keeps}
 use Rattle.task_state.specs.declared.State.{State}
-use Rattle.task_state.specs.State.{run}
+use Rattle.stored_runs.specs.Run.{run}
 use Rattle.task_state.specs.Sound.{runRule, stateSound}
 use Rattle.task_state.specs.Runs.{turnAt, withRun}
 use Rattle.task_state.proofs.RunFacts.{from-run-facts}

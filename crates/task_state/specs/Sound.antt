@@ -8,7 +8,8 @@ use Rattle.lists.specs.Lists.{total}
 use Rattle.planning.specs.declared.Line.{Line}
 use Rattle.planning.specs.Plan.{rowOf}
 use Rattle.lists.specs.Below.{allBelow}
-use Rattle.task_state.specs.declared.Run.{Run}
+use Rattle.stored_runs.specs.declared.Run.{Run}
+use Rattle.stored_runs.specs.Run.{runEmpty}
 use Rattle.task_state.specs.declared.State.{State}
 use Rattle.task_state.specs.State.{runAt}
 
@@ -18,10 +19,6 @@ runSound ln run =
     ltb 0 (run .core) && leb (run .core) coresLimit
     && ltb 0 (getD (rowOf ln) (run .core - 1) 0)
     && leb (run .deadline .0) (clockLimit + ln .period .0)
-
--- past the unfinished runs all numbers are 0
-abbrev pub runEmpty : Run → Bool
-runEmpty run = eqb (run .core) 0 && eqb (run .deadline .0) 0
 
 -- the rule for the k-th run: sound if it is unfinished, else empty
 abbrev pub runRule : Line → State → ℕ → Bool

@@ -5,12 +5,9 @@ use lib.ListN.{getD, replicate}
 use Rattle.units.specs.Limits.{coresLimit, runsLimit}
 use Rattle.units.specs.Units.{ticks}
 use Rattle.lists.specs.Lists.{zeros}
-use Rattle.task_state.specs.declared.Run.{Run}
+use Rattle.stored_runs.specs.declared.Run.{Run}
+use Rattle.stored_runs.specs.Run.{run}
 use Rattle.task_state.specs.declared.State.{State}
-
--- a run on core k, from 1, due at d
-abbrev pub run : ℕ → ℕ → Run
-run k d = record { core = k; deadline = ticks d }
 
 -- a task that has had no run
 unfoldable pub freshState : State

@@ -1,11 +1,11 @@
 // Who goes first on a core.
 use crate::State;
-use assignment::rows::first_core;
-use assignment::rows::parts_of;
-use assignment::standing::Standing;
-use assignment::standing::moves_by;
-use assignment::standing::stands;
 use planning::Line;
+use task_shares::rows::first_core;
+use task_shares::rows::parts_of;
+use task_shares::standing::Standing;
+use task_shares::standing::moves_by;
+use task_shares::standing::stands;
 ghost use mathlib.Core.Path.{_≡_};
 ghost use Prim.Native.Nat.{_+_, _<_, _≤_};
 ghost use Rattle.units.specs.Limits.{coresLimit, clockLimit, periodLimit};

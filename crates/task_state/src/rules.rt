@@ -1,18 +1,16 @@
 // The rules of soundness for one task's state.
-use crate::Run;
 use crate::State;
 use planning::Line;
+use stored_runs::Run;
 use units::limits::CLOCK;
 use units::limits::CORES;
 use units::limits::RUNS;
-use units::share::Share;
 ghost use mathlib.Core.Path.{_≡_};
-ghost use mathlib.Core.Bool.{cond, _&&_};
+ghost use mathlib.Core.Bool.{cond};
 ghost use Prim.Native.Nat.{_<_};
-ghost use lib.Dec.{ltb, leb, eqb};
-ghost use Rattle.units.specs.Limits.{coresLimit};
+ghost use lib.Dec.{eqb};
 ghost use Rattle.lists.specs.Lists.{total};
-ghost use Rattle.task_state.specs.Sound.{runEmpty, runsSound, lastSound, stateSound, runsEmpty, stateEmpty};
+ghost use Rattle.task_state.specs.Sound.{runsSound, lastSound, stateSound, runsEmpty, stateEmpty};
 
 // A count in the width of their sum: the proof knows the bound of a parameter, not of an array's element.
 fn wide(count: u32) -> u64
@@ -33,29 +31,6 @@ fn sums_to(counts: [u32; CORES], place: u32) -> bool
         p += 1;
     }
     all == place as u64
-}
-
-impl Run {
-    // Its core is from 1 to 16.
-    fn placed(self) -> bool
-        ensures { λ r. ⌜ r ≡ (ltb 0 (self .core) && leb (self .core) coresLimit) ⌝ }
-    {
-        (0 < self.core) & (self.core <= CORES)
-    }
-
-    // Its task has a share on its core, and its deadline is at most the latest.
-    fn sound(self, share: Share, latest: u64) -> bool
-        ensures { λ r. ⌜ r ≡ (ltb 0 (share .0) && leb (self .deadline .0) latest) ⌝ }
-    {
-        (0 < share.0) & (self.deadline.0 <= latest)
-    }
-
-    // All numbers are 0.
-    fn empty(self) -> bool
-        ensures { λ r. ⌜ r ≡ runEmpty self ⌝ }
-    {
-        (self.core == 0) & (self.deadline.0 == 0)
-    }
 }
 
 impl State {

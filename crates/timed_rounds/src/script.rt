@@ -3,9 +3,9 @@ use calls_text::calls::calls_place;
 use calls_text::line::CallLine;
 use calls_text::line::line_after;
 use calls_text::line::read_call;
+use core_choice::Choice;
 use dispatch::Record;
 use dispatch::call::Call;
-use dispatch::look::Choice;
 use units::ticks::Ticks;
 ghost use Prim.Native.Nat.{_≤_};
 

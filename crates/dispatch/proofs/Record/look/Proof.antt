@@ -14,16 +14,16 @@ use Rattle.dispatch.proofs.Record.look.Statement.{statement}
 use Rattle.dispatch.proofs.Record.look.Tie as tie
 
 abbrev Inv-loop : tie.InvT-loop
-Inv-loop core time self sound no' choice lines count best₀ i₀ best i = (i ≤ count) × (best ≡ bestOf self core i)
+Inv-loop core time self sound cores no' choice lines count best₀ i₀ best i = (i ≤ count) × (best ≡ bestOf self core i)
 
 abbrev μ-loop : tie.MeasureT-loop
-μ-loop core time self sound no' choice lines count best₀ i₀ best i = count - i
+μ-loop core time self sound cores no' choice lines count best₀ i₀ best i = count - i
 
 sound-requires : tie.Need-sound-requires Inv-loop μ-loop
 sound-requires c κs = search needs
 
-cast-shared-tests : tie.Need-cast-shared-tests Inv-loop μ-loop
-cast-shared-tests c = search needs
+cast-cores : tie.Need-cast-cores Inv-loop μ-loop
+cast-cores c = search needs
 
 shared-tests-requires : tie.Need-shared-tests-requires Inv-loop μ-loop
 shared-tests-requires c κs = search needs
@@ -130,7 +130,7 @@ look-spec =
     Inv-loop
     μ-loop
     sound-requires
-    cast-shared-tests
+    cast-cores
     shared-tests-requires
     loop-holds
     mul-line

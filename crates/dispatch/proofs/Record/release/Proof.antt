@@ -2,6 +2,14 @@
 use Rattle.dispatch.proofs.Called.{TaskCall, task-call}
 use Rattle.dispatch.proofs.Answers.{release-first, release-refused, release-taken}
 use Rattle.dispatch.specs.Refusals.{taskTests, releaseRefusal}
+use Rattle.units.specs.declared.ticks.Ticks.{Ticks}
+use Rattle.task_state.specs.declared.runs.Taken.{Taken}
+use Rattle.task_state.specs.Runs.{takenRun}
+use Rattle.dispatch.specs.declared.Record.{Record}
+use Rattle.dispatch.specs.Record.{lineAt, stateAt}
+use Rattle.dispatch.specs.Release.{releaseOf}
+use Prim.Native.Nat.{ℕ, _-_}
+use lib.ListN.{set}
 use native.Mathlib.Omega.{arith}
 use mathlib.Core.Path.{_≡_, sym, _∙_}
 use borrow.Author.Needs.{needs}
@@ -64,11 +72,22 @@ mul-after c = omega (arith, known (passed (taken c .before)) .below)
 element-set-from-after : tie.Need-element-set-from-after
 element-set-from-after c = omega (arith, known (passed (taken c .before)) .below)
 
+-- a release that is taken at this time as run x, field by field
+release-told : (r : Record) (i : ℕ) (time : Ticks) {n : ℕ} {x : Taken} → n ≡ releaseRefusal r i (time .0) → n ≡ 0
+    → x ≡ takenRun (lineAt r (i - 1)) (stateAt r (i - 1)) (time .0) → record {
+      refusal = n;
+      core = x .core;
+      deadline = x .deadline;
+      next = record { plan = r .plan; clock = time; states = set (r .states) (i - 1) (x .state) };
+    }
+    ≡ releaseOf r i (time .0)
+release-told r i time q e w = sym (release-taken r i (time .0) q e w)
+
 returns : tie.Need-returns
 returns c =
     let k = taken c in
     let s = start (passed (k .before)) .args in
-    sym (release-taken (s .t1) (s .task) (s .time .0) (own (k .before)) (k .if2 .taken) (c .before .before .with-run .ensures))
+    release-told (s .t1) (s .task) (s .time) (own (k .before)) (k .if2 .taken) (c .before .before .with-run .ensures)
 
 returns-2 : tie.Need-returns-2
 returns-2 c =

@@ -8,7 +8,7 @@ use borrow.Author.Tests.{ltb-true, ltb-false}
 use Rattle.units.specs.Limits.{tasksLimit, coresLimit}
 use Rattle.lists.specs.Lists.{parts}
 use Rattle.lists.proofs.Lists.{most-ge}
-use Rattle.assignment.specs.Movers.{moves}
+use Rattle.task_shares.specs.Movers.{moves}
 use Rattle.planning.specs.declared.Line.{Line}
 use Rattle.planning.specs.Plan.{noLine, rowOf}
 use Rattle.lateness.specs.declared.movers.Movers.{Movers}

@@ -11,8 +11,8 @@ use Rattle.units.specs.Limits.{coresLimit}
 use Rattle.units.specs.Units.{nums}
 use Rattle.lists.specs.Lists.{parts}
 use Rattle.lists.proofs.Filled.{stored-none}
-use Rattle.assignment.specs.Movers.{upper}
-use Rattle.assignment.proofs.Stands.{isUpper, upper-stands, found, but-upper}
+use Rattle.task_shares.specs.Movers.{upper}
+use Rattle.task_shares.proofs.Stands.{isUpper, upper-stands, found, but-upper}
 use Rattle.lateness.specs.Inner.{moverOn}
 use Rattle.lateness.proofs.Front.{Front, front-set, front-skip, as-mover}
 use borrow.Author.Needs.{needs}

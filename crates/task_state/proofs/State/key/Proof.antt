@@ -4,10 +4,10 @@ use mathlib.Core.Path.{_≡_, sym, ap, _∙_}
 use mathlib.Core.Bool.{cond}
 use lib.Dec.{ltb}
 use borrow.Author.Needs.{needs}
-use Rattle.assignment.specs.Standing.{standingOn}
-use Rattle.assignment.proofs.Stands.{isUpper, isLower, upper-stands, lower-stands, found}
-use Rattle.assignment.specs.declared.standing.Standing.{Standing}
-use Rattle.assignment.specs.declared.standing.Standing.the-variants.{Absent, Fixed, Lower, Upper}
+use Rattle.task_shares.specs.Standing.{standingOn}
+use Rattle.task_shares.proofs.Stands.{isUpper, isLower, upper-stands, lower-stands, found}
+use Rattle.task_shares.specs.declared.standing.Standing.{Standing}
+use Rattle.task_shares.specs.declared.standing.Standing.the-variants.{Absent, Fixed, Lower, Upper}
 use Rattle.planning.specs.Plan.{rowOf}
 use Rattle.task_state.specs.Key.{deadlineOf, keyOf}
 use Rattle.task_state.proofs.State.key.Statement.{statement}

@@ -9,7 +9,7 @@ use Rattle.units.specs.Limits.{runsLimit}
 use Rattle.lists.specs.Below.{allBelow}
 use Rattle.lists.proofs.Below.{all-none, all-more, all-fails}
 use Rattle.task_state.specs.State.{runAt}
-use Rattle.task_state.specs.Sound.{runEmpty}
+use Rattle.stored_runs.specs.Run.{runEmpty}
 use Rattle.task_state.proofs.State.runs_empty.Statement.{statement}
 use Rattle.task_state.proofs.State.runs_empty.Tie as tie
 

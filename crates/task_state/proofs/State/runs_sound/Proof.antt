@@ -10,7 +10,7 @@ use Rattle.units.specs.Limits.{coresLimit, runsLimit}
 use Rattle.lists.specs.Below.{allBelow}
 use Rattle.lists.proofs.Below.{all-none, all-more, all-fails}
 use Rattle.planning.specs.declared.Line.{Line}
-use Rattle.task_state.specs.declared.Run.{Run}
+use Rattle.stored_runs.specs.declared.Run.{Run}
 use Rattle.task_state.specs.declared.State.{State}
 use Rattle.task_state.specs.State.{runAt}
 use Rattle.task_state.specs.Sound.{runRule, runsSound}

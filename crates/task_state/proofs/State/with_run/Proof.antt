@@ -1,13 +1,18 @@
 -- `task_state::State::with_run` meets its contract.
-use Prim.Native.Nat.{_≤_}
+use Prim.Native.Nat.{_+_, _≤_}
 use mathlib.Core.Path.{_≡_}
 use native.Mathlib.Omega.{arith}
 use borrow.Author.Needs.{needs}
-use lib.ListN.{length}
+use lib.ListN.{length, set}
+use Rattle.units.specs.declared.ticks.Ticks.{Ticks}
 use Rattle.units.specs.Limits.{coresLimit}
+use Rattle.units.specs.Units.{ticks}
 use Rattle.units.proofs.Units.{field-long}
+use Rattle.planning.specs.declared.Line.{Line}
 use Rattle.planning.specs.Plan.{rowOf}
+use Rattle.turn.specs.declared.Turn.{Turn}
 use Rattle.turn.proofs.Keeps.{turn-keeps}
+use Rattle.task_state.specs.declared.State.{State}
 use Rattle.task_state.specs.Runs.{turnAt, withRun, takenRun}
 use Rattle.task_state.proofs.State.with_run.Statement.{statement}
 use Rattle.task_state.proofs.State.with_run.Tie as tie
@@ -51,9 +56,30 @@ element-write-state c = search needs
 add-state : tie.Need-add-state
 add-state c = search needs
 
-returns : tie.Need-returns
+-- the task with its run, by the turn x
+run-taken : (ln : Line) (st : State) (time : Ticks) {x : Turn} → x ≡ turnAt ln st
+    → let due = ticks (time .0 + ln .period .0) in record {
+      state = record {
+        last = time;
+        deadlines = set (st .deadlines) (st .live) due;
+        counts = x .counts;
+        place = x .place;
+        cores = set (st .cores) (st .live) (x .core);
+        live = st .live + 1;
+        had = 1;
+      };
+      core = x .core;
+      deadline = due;
+    }
+    ≡ takenRun ln st (time .0)
 unfolding withRun takenRun
-returns c = rw (c .before .before .before .before .before .turn-of .ensures)
+run-taken ln st time e = rw e
+
+returns : tie.Need-returns
+returns c =
+    let t = c .before .before .before .before .before in
+    let s = t .before .before .before .args in
+    run-taken (s .line) (s .self) (s .time) (t .turn-of .ensures)
 
 pub with-run-spec : {M : Type 1} → statement M
 with-run-spec =

@@ -1,11 +1,13 @@
 -- `task_state::State::without_run` meets its contract.
+use Prim.Native.Nat.{_-_}
 use mathlib.Core.Path.{_≡_}
 use borrow.Author.Needs.{needs}
 use lib.ListN.{length}
 use Rattle.units.specs.Limits.{runsLimit}
 use Rattle.units.specs.Units.{ticks}
+use Rattle.task_state.specs.declared.State.{State}
 use Rattle.task_state.specs.Runs.{withoutRun}
-use Rattle.task_state.proofs.Oldest.{deadlines-long, moved-up}
+use Rattle.task_state.proofs.Oldest.{deadlines-long, movedUp, moved-up}
 use Rattle.task_state.proofs.State.without_run.Statement.{statement}
 use Rattle.task_state.proofs.State.without_run.Tie as tie
 
@@ -54,13 +56,27 @@ element-copy-out-c7 c = search needs
 sub-state : tie.Need-sub-state
 sub-state c = search needs
 
-returns : tie.Need-returns
+-- the task without its oldest run, place by place
+run-ended : (st : State) → length (st .deadlines) ≡ runsLimit → length (st .cores) ≡ runsLimit
+    → record {
+      last = st .last;
+      deadlines = movedUp (ticks 0) (st .deadlines);
+      counts = st .counts;
+      place = st .place;
+      cores = movedUp 0 (st .cores);
+      live = st .live - 1;
+      had = st .had;
+    }
+    ≡ withoutRun st
 unfolding withoutRun
+run-ended st due on = rw (moved-up (ticks 0) (st .deadlines) due, moved-up 0 (st .cores) on)
+
+returns : tie.Need-returns
 returns c =
     let st = c .before .before .before .before .before .before .before .before .before .before .before .before .before .before .args .t1 in
     let due : length (st .deadlines) ≡ runsLimit = search (needs, deadlines-long) in
     let on : length (st .cores) ≡ runsLimit = search needs in
-    rw (moved-up (ticks 0) (st .deadlines) due, moved-up 0 (st .cores) on)
+    run-ended st due on
 
 pub without-run-spec : {M : Type 1} → statement M
 without-run-spec =

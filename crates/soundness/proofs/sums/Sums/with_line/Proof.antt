@@ -3,7 +3,7 @@ use mathlib.Core.Path.{_≡_, sym, ap, _∙_}
 use native.Mathlib.Omega.{arith}
 use lib.Dec.{ltb}
 use borrow.Author.Needs.{needs}
-use Rattle.assignment.specs.Movers.{moves}
+use Rattle.task_shares.specs.Movers.{moves}
 use Rattle.planning.specs.Plan.{rowOf}
 use Rattle.soundness.proofs.sums.Sums.with_line.Statement.{statement}
 use Rattle.soundness.proofs.sums.Sums.with_line.Tie as tie

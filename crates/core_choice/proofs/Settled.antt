@@ -1,0 +1,11 @@
+-- Any two answers that a public function's contract allows are equal.
+use mathlib.Core.Path.{sym, _∙_}
+use Rattle.lists.specs.Settled.{Settled}
+use Rattle.core_choice.proofs.better_task.Reads as BetterTask
+use Rattle.core_choice.proofs.Best.choice.Reads as BestChoice
+
+pub better-task : Settled BetterTask.Post
+better-task κs a x y e f p q = p ∙ sym q
+
+pub choice : Settled BestChoice.Post
+choice κs a x y e f p q = p ∙ sym q

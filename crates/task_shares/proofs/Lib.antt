@@ -1,0 +1,4 @@
+pub mod Words
+pub mod RowPassed
+pub mod Stands
+pub mod Settled

@@ -1,0 +1,3 @@
+// Fixed tasks and movers, by a task's row of shares.
+pub mod rows;
+pub mod standing;
