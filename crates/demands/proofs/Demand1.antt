@@ -15,7 +15,8 @@ use Rattle.units.specs.declared.ticks.Ticks.{Ticks}
 use Rattle.planning.specs.Plan.{line, emptyLine, emptyPlan}
 use Rattle.planning.specs.Tasks.{taskLine}
 use Rattle.task_state.specs.declared.State.{State}
-use Rattle.task_state.specs.State.{run, runAt, runsOf, freshState, noState}
+use Rattle.stored_runs.specs.Run.{run}
+use Rattle.task_state.specs.State.{runAt, runsOf, freshState, noState}
 use Rattle.task_state.specs.Runs.{turnAt, withRun, withoutRun}
 use Rattle.turn.specs.declared.Turn.{Turn}
 use Rattle.dispatch.specs.declared.Record.{Record}

@@ -16,7 +16,7 @@ use Rattle.lists.proofs.Tests.{by-cases, and-left, and-right, and-true, or-left
 use Rattle.lists.proofs.Lists.{getD-le-sum}
 use Rattle.lists.proofs.Below.{all-at, all-from}
 use Rattle.planning.specs.Plan.{rowOf}
-use Rattle.task_state.specs.declared.Run.{Run}
+use Rattle.stored_runs.specs.declared.Run.{Run}
 use Rattle.task_state.specs.declared.State.{State}
 use Rattle.task_state.specs.State.{runAt}
 use Rattle.task_state.specs.Shape.{Shaped as StateShaped}

@@ -10,7 +10,7 @@ use Rattle.lists.specs.Rows.{howMany, column}
 use Rattle.task_shares.specs.Movers.{fixedOn, movesOn, lower}
 use Rattle.planning.specs.declared.Line.{Line}
 use Rattle.planning.specs.Plan.{rowOf, sharesTable}
-use Rattle.task_state.specs.declared.Run.{Run}
+use Rattle.stored_runs.specs.declared.Run.{Run}
 use Rattle.task_state.specs.declared.State.{State}
 use Rattle.task_state.specs.State.{runAt}
 use Rattle.dispatch.specs.declared.Record.{Record}

@@ -11,7 +11,8 @@ use Rattle.planning.specs.Tasks.{taskLine}
 use Rattle.planning.specs.declared.Line.{Line}
 use Rattle.turn.specs.declared.Turn.{Turn}
 use Rattle.task_state.specs.declared.State.{State}
-use Rattle.task_state.specs.State.{run, noState, runsOf}
+use Rattle.stored_runs.specs.Run.{run}
+use Rattle.task_state.specs.State.{noState, runsOf}
 use Rattle.task_state.specs.Runs.{turnAt, withRun, takenRun}
 use Rattle.task_state.specs.Tests.{releaseTests}
 use Rattle.task_state.proofs.Facts.{Facts, facts}

@@ -8,9 +8,10 @@ use lib.Seq.{getD-set-same, getD-set-other}
 use Rattle.units.specs.Limits.{runsLimit}
 use Rattle.units.specs.Units.{ticks}
 use Rattle.planning.specs.declared.Line.{Line}
-use Rattle.task_state.specs.declared.Run.{Run}
+use Rattle.stored_runs.specs.declared.Run.{Run}
 use Rattle.task_state.specs.declared.State.{State}
-use Rattle.task_state.specs.State.{run, runAt, firstRuns, runsOf}
+use Rattle.stored_runs.specs.Run.{run}
+use Rattle.task_state.specs.State.{runAt, firstRuns, runsOf}
 use Rattle.task_state.specs.Runs.{turnAt, withRun, withoutRun}
 use Rattle.task_state.specs.Shape.{Shaped}
 use Rattle.task_state.proofs.Oldest.{next-up}
