@@ -20,7 +20,8 @@ use Rattle.stored_runs.specs.declared.Run.{Run}
 use Rattle.task_state.specs.declared.State.{State}
 use Rattle.task_state.specs.State.{runAt}
 use Rattle.task_state.specs.Shape.{Shaped as StateShaped}
-use Rattle.task_state.specs.Sound.{runEmpty, runRule, runsEmpty, stateEmpty}
+use Rattle.stored_runs.specs.Run.{runEmpty}
+use Rattle.task_state.specs.Sound.{runRule, runsEmpty, stateEmpty}
 use Rattle.task_state.proofs.RunFacts.{from-run-facts}
 use Rattle.task_state.proofs.Facts.{from-facts}
 use Rattle.dispatch.specs.declared.Record.{Record}
