@@ -1,5 +1,9 @@
 -- `player::play::play_table` meets its contract.
+use Prim.Native.Nat.{_+_, _/_}
+use mathlib.Core.Path.{_≡_}
+use lib.ListN.{length}
 use Rattle.writing.proofs.Wrote.{recast}
+use Rattle.calls_text.specs.Input.{badCall}
 use Rattle.player.proofs.Gives.{no-calls, bad-call, good-calls}
 use borrow.Author.Needs.{needs}
 use Rattle.player.proofs.play.play_table.Statement.{statement}
@@ -29,6 +33,11 @@ add-first-bad c = search needs
 first-bad-requires : tie.Need-first-bad-requires
 first-bad-requires c κs = search needs
 
+-- the first unreadable call, the first call's line given: after the core count, the tasks and `calls`
+first-line : (c : tie.After-first-bad) → let s = c .before .before .before .before .before .args in
+    c .first-bad .result ≡ badCall (s .text .now) (3 + length (s .table .now) / 2) (s .place + 6)
+first-line c = c .first-bad .ensures
+
 put-unreadable-requires-2 : tie.Need-put-unreadable-requires-2
 put-unreadable-requires-2 c κs = search needs
 
@@ -41,7 +50,7 @@ returns-2 c =
     let j = p .before .before in
     let b = j .before in
     let i = b .before in
-    (recast (bad-call _ _ _ _ (i .if1 .left) (b .first-bad .ensures) (j .if2 .taken)) (p .put-unreadable2 .ensures .0), search needs)
+    (recast (bad-call _ _ _ _ (i .if1 .left) (first-line b) (j .if2 .taken)) (p .put-unreadable2 .ensures .0), search needs)
 
 play-taken-requires : tie.Need-play-taken-requires
 play-taken-requires c κs = search needs
@@ -55,7 +64,7 @@ returns-3 c =
     let j = p .before .before in
     let b = j .before in
     let i = b .before in
-    (recast (good-calls _ _ _ _ (i .if1 .left) (b .first-bad .ensures) (j .if2 .left)) (p .play-taken .ensures .0), search needs)
+    (recast (good-calls _ _ _ _ (i .if1 .left) (first-line b) (j .if2 .left)) (p .play-taken .ensures .0), search needs)
 
 pub play-table-spec : {M : Type 1} → statement M
 play-table-spec =
