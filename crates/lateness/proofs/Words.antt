@@ -4,14 +4,14 @@ use mathlib.Core.Path.{_≡_, sym, ap, ap₂, _∙_}
 use mathlib.Core.List.{List, map}
 use native.Mathlib.Omega.{arith}
 use native.Mathlib.Nat.{le-of-mul-le-mul-right}
-use lib.IntN.{pos, subℕ, _+ℤ_, _*ℤ_, -ℤ-+ℤ-cancel, +ℤ-assoc}
+use lib.IntN.{pos, subℕ, _+ℤ_, -ℤ-+ℤ-cancel, +ℤ-assoc}
 use Rattle.lists.specs.Rows.{howMany}
 use Rattle.arith.specs.Ceiling.{ceilDiv}
 use Rattle.arith.proofs.Rounding.{ceil-least}
 use Rattle.task_shares.specs.Movers.{movesOn}
 use Rattle.planning.specs.declared.Line.{Line}
 use Rattle.planning.specs.Plan.{emptyLine, rowOf}
-use Rattle.lateness.specs.Lateness.{overMovers, shareOn, reachOf, push, reachOn, fixedLate}
+use Rattle.lateness.specs.Lateness.{overMovers, shareOn, push, reachOn, fixedLate}
 use Rattle.lateness.proofs.Pair.{empty-share, empty-load, over-nobody}
 use Rattle.arith.proofs.Signed.{pos-sub}
 
@@ -21,11 +21,6 @@ reach-says r t =
     let d : subℕ r t +ℤ pos t ≡ pos r = ap (λ z. z +ℤ pos t) (sym (pos-sub r t)) ∙ -ℤ-+ℤ-cancel (pos r) (pos t) in
     let e : t + t ≡ 2 * t = omega arith in
     ap (λ z. z +ℤ pos t) (sym d) ∙ +ℤ-assoc (subℕ r t) (pos t) (pos t) ∙ ap (λ n. subℕ r t +ℤ pos n) e
-
--- what a mover pushes is s × (D + 2T)
-pub push-says : (rs : List ℕ) (p : ℕ) (ln : Line)
-    → pos (push rs p ln) ≡ pos (shareOn p ln) *ℤ (subℕ (reachOf rs ln) (ln .period .0) +ℤ pos (2 * ln .period .0))
-push-says rs p ln = ap (λ z. pos (shareOn p ln) *ℤ z) (reach-says (reachOf rs ln) (ln .period .0))
 
 -- a multiple is divided without rest
 ceil-mul : (l c : ℕ) → 0 < l → ceilDiv (l * c) l ≡ c
