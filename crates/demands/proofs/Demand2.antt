@@ -34,10 +34,10 @@ use Rattle.lateness.specs.Words.{lineOf, boundOf, twoPast, MoverBound, FixedBou
 use Rattle.lateness.proofs.Range.{late-range}
 use Rattle.soundness.proofs.Taken.{plan-number}
 use Rattle.dispatch.specs.Record.{freshOf}
-use Rattle.demands.proofs.OrderKept.{order-whole, weight-at-place, task-at-place}
-use Rattle.demands.proofs.PlanLines.{rowAtPlace}
-use Rattle.demands.proofs.TakenPlan.{stands, is-taken, plan-is, keeps, lines-long, line-of, row-sum}
-use Rattle.demands.proofs.Bounds.{past-whole, mover-bound, fixed-bound}
+use Rattle.demands.proofs.Beneath.OrderKept.{order-whole, weight-at-place, task-at-place}
+use Rattle.demands.proofs.Beneath.PlanLines.{rowAtPlace}
+use Rattle.demands.proofs.Beneath.TakenPlan.{stands, is-taken, plan-is, keeps, lines-long, line-of, row-sum}
+use Rattle.demands.proofs.Beneath.Bounds.{past-whole, mover-bound, fixed-bound}
 
 -- the limits are those of document 01
 pub limits-are : theLimits ≡ record { cores = 16; tasks = 64; period = 1000000; common = 1000000; clock = 1000000000000; runs = 8 }

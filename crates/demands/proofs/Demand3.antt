@@ -14,7 +14,7 @@ use Rattle.dispatch.specs.declared.call.Call.{Call}
 use Rattle.dispatch.specs.Calls.{coresOf, sentTo, inARow}
 use Rattle.dispatch.proofs.Started.{started}
 use Rattle.dispatch.proofs.Demand3.{core-of-run, of-the-first, of-any-in-a-row, shares-alone}
-use Rattle.demands.proofs.Drawn.{drawn-task}
+use Rattle.demands.proofs.Beneath.Drawn.{drawn-task}
 
 -- a list m, xs that is taken, one of its tasks i, and any calls cs on its fresh record
 module _ (m : ℕ) (xs : List ℕ) (ok : freshOf m xs .refusal .no ≡ 0) (i : ℕ) (from : 1 ≤ i) (to : i ≤ tasks xs) (cs : List Call) where

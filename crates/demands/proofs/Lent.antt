@@ -33,13 +33,13 @@ use Rattle.listing.proofs.Listing.{record-determined}
 use Rattle.table_text.specs.Text.{says, unreadable, textOf, tableSaid, answerOf, readingRefusal}
 use Rattle.plan_answer.specs.Answer.{answerText}
 use Rattle.host.specs.Host.{tableIn, admitOf, hostListed, hostAfter}
-use Rattle.demands.proofs.Lists.{is-taken, first, then-14, none, refused, accepted}
-use Rattle.demands.proofs.Bytes.{table-out, tasks-are, cost-is, period-is}
-use Rattle.demands.proofs.HostLists.{admitted, first as answered-first, then-14 as answered-14, the-length as answered-length, refused as answered-refused, accepted as answered-accepted}
+use Rattle.demands.proofs.Beneath.Lists.{is-taken, first, then-14, none, refused, accepted}
+use Rattle.demands.proofs.Beneath.Bytes.{table-out, tasks-are, cost-is, period-is}
+use Rattle.demands.proofs.Beneath.HostLists.{admitted, first as answered-first, then-14 as answered-14, the-length as answered-length, refused as answered-refused, accepted as answered-accepted}
 use Rattle.dispatch.proofs.Refused.{refused-unsound}
-use Rattle.demands.proofs.RefusalLines.{alone, with-task, with-line}
-use Rattle.demands.proofs.Program.{reading, unread-kept, first-16, then-planning, else-listed}
-use Rattle.demands.proofs.SaysTable.{says-table}
+use Rattle.demands.proofs.Beneath.RefusalLines.{alone, with-task, with-line}
+use Rattle.demands.proofs.Beneath.Program.{reading, unread-kept, first-16, then-planning, else-listed}
+use Rattle.demands.proofs.Beneath.SaysTable.{says-table}
 
 -- a record handed in, and the lent buffer
 module _ (r : Record) (buf : List ℕ) where

@@ -33,7 +33,7 @@ use Rattle.dispatch.proofs.Choice.{choice-chosen, look-exactly}
 use Rattle.dispatch.proofs.Values.{chosen-told}
 use Rattle.dispatch.proofs.Going.{release-exactly}
 use Rattle.dispatch.proofs.Demand3.{goes-to, of-whole-cycles, place-is, count-is, of-a-fixed}
-use Rattle.demands.proofs.Drawn.{drawn-cores, drawn-task, drawn-good}
+use Rattle.demands.proofs.Beneath.Drawn.{drawn-cores, drawn-task, drawn-good}
 
 -- any sound record, reached from a plan or not
 module _ (r : Record) (g : Good r) where

@@ -21,7 +21,7 @@ use Rattle.dispatch.proofs.Always.{always-good}
 use Rattle.dispatch.proofs.Never.{never-15}
 use Rattle.dispatch.proofs.Started.{started}
 use Rattle.demands.specs.Sound.{Sound}
-use Rattle.demands.proofs.SoundClauses.{clauses, from-clauses}
+use Rattle.demands.proofs.Beneath.SoundClauses.{clauses, from-clauses}
 
 -- a record with arrays of the code's lengths passes the test of soundness exactly if every clause of document 01 holds
 pub sound-exactly : (r : Record) → Shaped r → (soundOf r ≡ true) ↔ Sound r

@@ -12,7 +12,7 @@ use Rattle.writing.proofs.Plain.{decimal-plain, plain-back}
 use Rattle.table_text.specs.Text.{Said, says, unreadable, textOf}
 use Rattle.table_text.specs.Grammar.{coresWritten, tasksWritten, Starts, NoCores, NoTask, Says}
 use Rattle.table_text.proofs.EveryText.{said-exactly}
-use Rattle.demands.proofs.TextForms.{says-table, names-0, names-1, names-later}
+use Rattle.demands.proofs.Beneath.TextForms.{says-table, names-0, names-1, names-later}
 
 -- a blank and a newline as bytes
 pub bytes : (blank ≡ 32) × (newline ≡ 10)

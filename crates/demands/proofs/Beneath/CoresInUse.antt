@@ -15,7 +15,7 @@ use Rattle.assignment.specs.Passes.{whole, less, passTwo, passes, rooms}
 use Rattle.assignment.specs.Load.{roomOf, byLoad}
 use Rattle.assignment.proofs.Poured.{cut, rest, pour, poured}
 use Rattle.assignment.proofs.Load.{by-load}
-use Rattle.demands.proofs.ZerosAfter.{atMost-zeros, set-zeros, long-zeros}
+use Rattle.demands.proofs.Beneath.ZerosAfter.{atMost-zeros, set-zeros, long-zeros}
 
 -- cores without room give nothing
 cut-zeros : (n k : ℕ) → cut n (zeros k) ≡ zeros k

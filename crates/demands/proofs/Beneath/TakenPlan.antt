@@ -26,7 +26,7 @@ use Rattle.soundness.proofs.Taken.{plan-number, plan-kept, taken-plan}
 use Rattle.soundness.proofs.PlannedShape.{started-plan}
 use Rattle.lateness.specs.Words.{lineOf}
 use Rattle.dispatch.specs.Record.{recordOf, freshOf}
-use Rattle.demands.proofs.PlanLines.{rowAtPlace, line-is}
+use Rattle.demands.proofs.Beneath.PlanLines.{rowAtPlace, line-is}
 
 -- a row with a share is fixed or moves
 pub stands : (row : List ℕ) → 0 < total row → (fixed row ≡ true) ⊎ (moves row ≡ true)

@@ -16,8 +16,8 @@ use Rattle.planning.specs.Plan.{planOf}
 use Rattle.listing.specs.Listing.{listingText}
 use Rattle.listing.specs.Listed.{tableListed, tableAfter}
 use Rattle.host.specs.Host.{tableIn, admitOf, negative, answered, hostListed, hostAfter}
-use Rattle.demands.proofs.Lists.{Case as ListCase, case as list-case}
-use Rattle.demands.proofs.Lists.Case.{earlier as list-earlier, short as list-short, whole as list-whole}
+use Rattle.demands.proofs.Beneath.Lists.{Case as ListCase, case as list-case}
+use Rattle.demands.proofs.Beneath.Lists.Case.{earlier as list-earlier, short as list-short, whole as list-whole}
 
 -- the number that planning gives
 pub admitted : (m : ℕ) (xs : List ℕ) (n : ℕ) → (planRefusal m xs .no ≡ n) ↔ ((i : ℕ) × Given m xs n i)

@@ -23,8 +23,8 @@ use Rattle.dispatch.specs.declared.Record.{Record}
 use Rattle.dispatch.specs.Record.{lineAt}
 use Rattle.dispatch.specs.Shape.{Shaped}
 use Rattle.demands.specs.Sound.{Sound}
-use Rattle.demands.proofs.SoundCommon.{common-exactly}
-use Rattle.demands.proofs.SoundPlan.{row-is}
+use Rattle.demands.proofs.Beneath.SoundCommon.{common-exactly}
+use Rattle.demands.proofs.Beneath.SoundPlan.{row-is}
 
 -- numbers that are all 0 sum to 0
 pub none-sum : (xs : List ℕ) → ((p : ℕ) → getD xs p 0 ≡ 0) → total xs ≡ 0

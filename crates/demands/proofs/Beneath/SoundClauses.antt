@@ -21,9 +21,9 @@ use Rattle.dispatch.specs.Record.{lineAt, stateAt}
 use Rattle.dispatch.specs.Shape.{Shaped}
 use Rattle.dispatch.proofs.Held.{Held, state-sound}
 use Rattle.demands.specs.Sound.{InRange, NoLine, NoRun, NoState, Sound}
-use Rattle.demands.proofs.SoundPlan.{plan-numbers, multiple, least, exact, past-zero, weighs, core-kept, none-beyond, heavier}
-use Rattle.demands.proofs.PlanSound.{plan-rule}
-use Rattle.demands.proofs.SoundState.{every-run, empty-state, state-rule}
+use Rattle.demands.proofs.Beneath.SoundPlan.{plan-numbers, multiple, least, exact, past-zero, weighs, core-kept, none-beyond, heavier}
+use Rattle.demands.proofs.Beneath.PlanSound.{plan-rule}
+use Rattle.demands.proofs.Beneath.SoundState.{every-run, empty-state, state-rule}
 
 module _ (r : Record) (long : Shaped r) (s : Held r) where
   -- the plan's numbers

@@ -23,7 +23,7 @@ use Rattle.lateness.specs.Words.{lineOf, boundOf, twoPast, MoverBound, FixedBou
 use Rattle.lateness.proofs.Words.{reach-says, fixed-alone}
 use Rattle.lateness.proofs.Tasks.{getD-map-in}
 use Rattle.lateness.proofs.Formulas.{first-seek, line-there, mover-late, mover-alone}
-use Rattle.demands.proofs.SumOn.{none-pass, sum-on}
+use Rattle.demands.proofs.Beneath.SumOn.{none-pass, sum-on}
 
 -- a line that has a share is one of the lines
 fixed-there : (lns : List Line) (i : ℕ) → fixed (rowOf (getD lns i noLine)) ≡ true → i < length lns

@@ -22,8 +22,8 @@ use Rattle.listing.specs.Listed.{listingLimit}
 use Rattle.table_text.specs.Text.{Said, says, unreadable, textOf, tableSaid, answerOf, readingRefusal}
 use Rattle.plan_answer.specs.Answer.{answerText}
 use Rattle.plan_answer.proofs.Words.{unread, refused, listed}
-use Rattle.demands.proofs.RefusalLines.{line-says}
-use Rattle.demands.proofs.SaysTable.{says-table}
+use Rattle.demands.proofs.Beneath.RefusalLines.{line-says}
+use Rattle.demands.proofs.Beneath.SaysTable.{says-table}
 
 -- a listing is no refusal's line
 not-a-line : (pl : Plan) (r : Refusal) → listingText pl ≡ refusalText r → ⊥

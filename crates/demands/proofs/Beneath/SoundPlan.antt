@@ -25,7 +25,7 @@ use Rattle.soundness.proofs.Numbers.{Numbers, numbers}
 use Rattle.soundness.proofs.Ranges.{Zero, empty-zero, sound-weight, sound-sum}
 use Rattle.soundness.proofs.Facts.{ruled, task-sound}
 use Rattle.soundness.proofs.SoundKept.{sound-kept}
-use Rattle.demands.proofs.SoundCommon.{common-exactly}
+use Rattle.demands.proofs.Beneath.SoundCommon.{common-exactly}
 
 -- task i's row is its line's
 pub row-is : (pl : Plan) (i : ℕ) → getD (sharesTable pl) i [] ≡ rowOf (getD (pl .lines) i noLine)

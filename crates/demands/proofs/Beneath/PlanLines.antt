@@ -22,9 +22,9 @@ use Rattle.soundness.proofs.Keeps.{Fits}
 use Rattle.soundness.proofs.PlannedLines.{task-line}
 use Rattle.soundness.proofs.Taken.{taken-fits}
 use Rattle.lateness.proofs.Tasks.{getD-map-in}
-use Rattle.demands.proofs.CoresInUse.{wider, in-use}
-use Rattle.demands.proofs.AtPlace.{at-place}
-use Rattle.demands.proofs.OrderKept.{inOrder-zeros, place-zeros}
+use Rattle.demands.proofs.Beneath.CoresInUse.{wider, in-use}
+use Rattle.demands.proofs.Beneath.AtPlace.{at-place}
+use Rattle.demands.proofs.Beneath.OrderKept.{inOrder-zeros, place-zeros}
 
 -- the row that the passes give at task k's place, over the m cores
 abbrev pub rowAtPlace : ℕ → List ℕ → ℕ → List ℕ

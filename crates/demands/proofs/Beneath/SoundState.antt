@@ -29,7 +29,7 @@ use Rattle.dispatch.specs.Record.{lineAt, stateAt}
 use Rattle.dispatch.specs.Shape.{Shaped}
 use Rattle.dispatch.specs.Sound.{stateOk}
 use Rattle.demands.specs.Sound.{NoRun, NoState, Sound}
-use Rattle.demands.proofs.PlanSound.{none-sum}
+use Rattle.demands.proofs.Beneath.PlanSound.{none-sum}
 
 -- the numbers of an empty run are 0
 no-run : (x : Run) → runEmpty x ≡ true → NoRun x

@@ -13,7 +13,7 @@ use Rattle.lists.proofs.Filled.{default-after}
 use Rattle.admission.proofs.Padded.{most-zeros}
 use Rattle.ordering.specs.Order.{goesBefore, places, placeOf, pickedWeights, order, inOrder}
 use Rattle.ordering.proofs.Picks.{left-parts, inOrder-length, order-place, place-order, inOrder-at}
-use Rattle.demands.proofs.ZerosAfter.{atMost-zeros, parts-zeros, set-zeros}
+use Rattle.demands.proofs.Beneath.ZerosAfter.{atMost-zeros, parts-zeros, set-zeros}
 
 module _ (k : ℕ) where
   -- the picks are the same
