@@ -49,7 +49,7 @@ module _ (r : Record) (g : Good r) where
   pub look-answers : (k : ℕ) (t : Ticks) → callRefusal r (Look k t) ≡ 0 → (x : Choice) → (answeredOf r (Look k t) .answer ≡ Looked x) ↔ Chosen r k x
   look-answers = look-exactly r g
 
-  -- in numbers: kind 0 where nobody waits, else the task that goes first with its deadline, of kind 1 if it is fixed, 2 if a lower and 3 if an upper mover
+  -- numbers tell the choice: kind 0 where nobody waits, else the task that goes first with its deadline, of kind 1 if fixed, 2 if lower, 3 if upper
   abbrev Tells : ℕ → Values → Type 0
   Tells k v =
       ((v .kind ≡ 0) × ((i : ℕ) → Waits r k i → ⊥))
@@ -57,6 +57,7 @@ module _ (r : Record) (g : Good r) where
       × (v .deadline ≡ deadlineAt r (v .task))
       × (((v .kind ≡ 1) × FixedOn r k (v .task)) ⊎ (((v .kind ≡ 2) × LowerOn r k (v .task)) ⊎ ((v .kind ≡ 3) × UpperOn r k (v .task)))))
 
+  -- and so do those of an accepted look
   pub look-numbers : (k : ℕ) (t : Ticks) → callRefusal r (Look k t) ≡ 0 → Tells k (valuesOf (answeredOf r (Look k t) .answer))
   look-numbers k t ok =
       let c = choice-chosen r g k in

@@ -1,1 +1,1 @@
-// What is certain, on one page each: definitions in specs/, theorems in proofs/.
+// What is certain, on one page each in proofs/; its folder Beneath has the laws that only the pages need.

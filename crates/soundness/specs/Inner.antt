@@ -29,7 +29,7 @@ moversAt s p = getD (s .movers) p 0
 abbrev pub firstsAt : Sums → ℕ → ℕ
 firstsAt s p = getD (s .firsts) p 0
 
--- the weight of the heaviest of them
+-- the weight of its heaviest mover
 abbrev pub heaviestAt : Sums → ℕ → ℕ
 heaviestAt s p = getD (s .heaviest) p (share 0) .0
 
