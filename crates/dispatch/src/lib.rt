@@ -12,6 +12,7 @@ use units::limits::TASKS;
 use units::ticks::Ticks;
 
 // The plan, the clock, and what each of its tasks is at.
+#[repr(C)]
 pub struct Record {
     pub plan: Plan,
     pub clock: Ticks,

@@ -9,6 +9,7 @@ ghost use lib.ListN.{length};
 ghost use Rattle.host.specs.Host.{admitOf, negative as negativeOf, answered, hostListed, hostAfter};
 
 mod bytes;
+pub mod dispatcher;
 
 // A refusal number made negative.
 fn negative(number: u32) -> i64

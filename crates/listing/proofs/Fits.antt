@@ -4,7 +4,7 @@ use mathlib.Core.Path.{_≡_}
 use mathlib.Core.Bool.{true}
 use mathlib.Core.List.{List, [], _∷_, _++_}
 use native.Mathlib.Omega.{arith}
-use lib.Dec.{eqb}
+use lib.Dec.{leb, eqb}
 use lib.IntN.{ℤ, pos, negsuc}
 use lib.Signed.{leZ}
 use lib.ListN.{length, getD, length-append}
@@ -25,6 +25,7 @@ use Rattle.lateness.proofs.Range.{late-range}
 use Rattle.soundness.specs.Plan.{planSound}
 use Rattle.soundness.proofs.Facts.{tasks-few, weight-small, shares-sum}
 use Rattle.dispatch.specs.declared.Record.{Record}
+use Rattle.dispatch.specs.Sound.{soundOf}
 use Rattle.dispatch.specs.Shape.{Good}
 use Rattle.planning.specs.Shape.{PlanShaped}
 use Rattle.soundness.proofs.SoundKept.{sound-kept}
@@ -133,3 +134,13 @@ unfolding listedOf planListed
 fits r g room h =
     let f = listing-length (r .plan) (g .shaped .plan) (held r (g .sound) .plan) in
     rw (g .sound, le-leb (length (listingText (r .plan))) room (omega (arith, f)))
+
+-- the length that is answered is small, refused or not
+pub listed-length : (r : Record) (room : ℕ) → PlanShaped (r .plan) → listedOf r room .length ≤ listingLimit
+unfolding listedOf planListed
+listed-length r room long =
+    by-cases (soundOf r)
+    (λ e. by-cases (leb (length (listingText (r .plan))) room)
+    (λ h. rw (e, h) (listing-length (r .plan) long (held r e .plan)))
+    (λ h. rw (e, h) (omega arith)))
+    (λ e. rw e (omega arith))

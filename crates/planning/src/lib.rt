@@ -16,6 +16,7 @@ ghost use Rattle.assignment.specs.Passes.{rooms, rowsOf};
 ghost use Rattle.planning.specs.Plan.{linesOf, paddedLines, emptyPlan, planFor, planOf};
 
 // A task's line: what the table says of it, and what it is given.
+#[repr(C)]
 pub struct Line {
     pub cost: Duration,
     pub period: Duration,
@@ -33,6 +34,7 @@ impl Line {
 }
 
 // Cores M, the common period L, the number of tasks N, and the tasks' lines; those past N are empty.
+#[repr(C)]
 pub struct Plan {
     pub cores: u32,
     pub common: u32,

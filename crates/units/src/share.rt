@@ -5,6 +5,7 @@ ghost use mathlib.Core.Path.{_≡_};
 ghost use Prim.Native.Nat.{_*_, _-_, min};
 ghost use Rattle.units.specs.Limits.{coresLimit, commonLimit};
 
+#[repr(C)]
 pub struct Share(pub u32);
 
 impl Share {

@@ -1,0 +1,136 @@
+// The dispatcher for the host, on a record that it lends: planning, release, finish, look and the listing. Each loads, makes one call by value and stores.
+use crate::bytes::table_of;
+use dispatch::Record;
+use lent_calls::Told;
+use lent_calls::finish;
+use lent_calls::look;
+use lent_calls::release;
+use listing::listed::list;
+ghost use mathlib.Core.Path.{_≡_};
+ghost use lib.IntN.{pos};
+ghost use lib.ListN.{length};
+ghost use Rattle.dispatch.specs.Record.{freshOf};
+ghost use Rattle.dispatch.specs.Release.{releaseOf};
+ghost use Rattle.dispatch.specs.Finish.{finishOf};
+ghost use Rattle.dispatch.specs.Look.{lookOf};
+ghost use Rattle.listing.specs.Listed.{listedOf, bufferAfter};
+ghost use Rattle.lent_calls.specs.Lent.{orKept, toldOf};
+ghost use Rattle.host.specs.Host.{tableIn};
+ghost use Rattle.host.specs.Inner.{startLent, listLent};
+
+// What planning leaves in the record that is lent.
+pub(crate) struct LentStart {
+    pub(crate) refusal: u32,
+    pub(crate) next: Record,
+}
+
+// The fresh record of a byte table; or the refusal, and the record as it was.
+fn start(held: Record, cores: u32, table: &[u8]) -> LentStart
+    ensures { λ r. ⌜ r ≡ startLent (freshOf cores (tableIn (now (table .entry)))) held ⌝ }
+{
+    let read = table_of(table);
+    let numbers = read.numbers;
+    let count = read.count;
+    let fresh = Record::fresh(cores, &numbers[0..count]);
+    let refusal = fresh.refusal;
+    let mut next = held;
+    if refusal.no == 0 {
+        let new = fresh.next;
+        next = new;
+    }
+    LentStart {
+        refusal: refusal.no,
+        next: next,
+    }
+}
+
+// Plans a byte table: 0 and the fresh record, or the refusal.
+#[no_mangle]
+pub extern "C" fn yagomila_start(held: &mut Record, cores: u32, table: &[u8]) -> u32
+    ensures { λ r. ⌜ (let a = freshOf cores (tableIn (now (table .entry))) in
+        (r ≡ a .refusal .no) × (now (held .exit) ≡ orKept (a .refusal .no) (a .next) (now (held .entry)))) ⌝ }
+{
+    let after = start(*held, cores, table);
+    *held = after.next;
+    after.refusal
+}
+
+// A release: 0 with the run's core and deadline, or the refusal.
+#[no_mangle]
+pub extern "C" fn yagomila_release(
+    held: &mut Record,
+    task: usize,
+    time: u64,
+    core: &mut usize,
+    deadline: &mut u64,
+) -> u32
+    ensures { λ r. ⌜ (let a = releaseOf (now (held .entry)) task time in
+        (r ≡ a .refusal) × (now (held .exit) ≡ a .next)
+        × (now (core .exit) ≡ orKept (a .refusal) (a .core) (now (core .entry)))
+        × (now (deadline .exit) ≡ orKept (a .refusal) (a .deadline .0) (now (deadline .entry)))) ⌝ }
+{
+    let after = release(*held, task, time, *core, *deadline);
+    *held = after.next;
+    *core = after.core;
+    *deadline = after.deadline;
+    after.refusal
+}
+
+// A finish: 0 with the time less the deadline, or the refusal.
+#[no_mangle]
+pub extern "C" fn yagomila_finish(held: &mut Record, task: usize, time: u64, late: &mut i64) -> u32
+    ensures { λ r. ⌜ (let a = finishOf (now (held .entry)) task time in
+        (r ≡ a .refusal) × (now (held .exit) ≡ a .next) × (now (late .exit) ≡ orKept (a .refusal) (a .late) (now (late .entry)))) ⌝ }
+{
+    let after = finish(*held, task, time, *late);
+    *held = after.next;
+    *late = after.late;
+    after.refusal
+}
+
+// A look: 0 with the core's choice, or the refusal.
+#[no_mangle]
+pub extern "C" fn yagomila_look(held: &mut Record, core: usize, time: u64, choice: &mut Told) -> u32
+    ensures { λ r. ⌜ (let a = lookOf (now (held .entry)) core time in
+        (r ≡ a .refusal) × (now (held .exit) ≡ a .next) × (now (choice .exit) ≡ orKept (a .refusal) (toldOf (a .choice)) (now (choice .entry)))) ⌝ }
+{
+    let after = look(*held, core, time, *choice);
+    *held = after.next;
+    *choice = after.choice;
+    after.refusal
+}
+
+// What a listing leaves in the length that is lent.
+pub(crate) struct LentList {
+    pub(crate) refusal: u32,
+    pub(crate) len: i64,
+}
+
+// The listing of the record's plan in the buffer, and its length; or the refusal, and both as they were.
+fn list_into(held: Record, buf: &mut [u8], len: i64) -> LentList
+    ensures { λ r. ⌜ (r ≡ listLent (listedOf held (length (now (buf .entry)))) len) × (now (buf .exit) ≡ bufferAfter held (now (buf .entry))) ⌝ }
+{
+    let listed = list(held, buf);
+    let refusal = listed.refusal;
+    let mut written = len;
+    if refusal.no == 0 {
+        written = listed.length as i64;
+    }
+    LentList {
+        refusal: refusal.no,
+        len: written,
+    }
+}
+
+// The record's listing: 0 with its length in bytes, or the refusal.
+#[no_mangle]
+pub extern "C" fn yagomila_list(held: &Record, buf: &mut [u8], len: &mut i64) -> u32
+    ensures { λ r. ⌜ (let a = listedOf (now (held .entry)) (length (now (buf .entry))) in
+        (r ≡ a .refusal .no)
+        × (now (buf .exit) ≡ bufferAfter (now (held .entry)) (now (buf .entry)))
+        × (now (len .exit) ≡ orKept (a .refusal .no) (pos (a .length)) (now (len .entry)))) ⌝ }
+{
+    let after = list_into(*held, buf, *len);
+    *len = after.len;
+    after.refusal
+}
