@@ -1,1 +1,3 @@
 pub mod Choice
+pub mod Told
+pub mod Inner

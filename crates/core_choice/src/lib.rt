@@ -7,6 +7,8 @@ ghost use Prim.Native.Nat.{_+_, _<_, _≤_};
 ghost use Rattle.units.specs.Limits.{coresLimit, periodLimit, clockLimit};
 ghost use Rattle.task_state.specs.Key.{deadlineOf};
 ghost use Rattle.core_choice.specs.Choice.{betterTask, choiceBy};
+ghost use Rattle.core_choice.specs.Told.{toldOf, choiceTold};
+ghost use Rattle.core_choice.specs.Inner.{kindBy};
 
 // Where a mover stands on a core: lower on its first core, upper on any other.
 pub enum Side {
@@ -19,6 +21,40 @@ pub enum Choice {
     Idle,
     Fixed(usize, Ticks),
     Mover(usize, Ticks, Side),
+}
+
+// A choice in numbers: its kind (0 idle, 1 fixed, 2 lower, 3 upper), its task from 1 and its deadline; 0 and 0 where it is idle.
+#[repr(C)]
+pub struct Told {
+    pub kind: u64,
+    pub task: usize,
+    pub deadline: Ticks,
+}
+
+impl Told {
+    pub const IDLE: Told = Told {
+        kind: 0,
+        task: 0,
+        deadline: Ticks(0),
+    };
+
+    // The choice that the numbers tell.
+    pub fn choice(self) -> Choice
+        ensures { λ r. ⌜ r ≡ choiceTold self ⌝ }
+    {
+        let task = self.task;
+        let deadline = self.deadline;
+        if self.kind == 0 {
+            return Choice::Idle;
+        }
+        if self.kind == 1 {
+            return Choice::Fixed(task, deadline);
+        }
+        if self.kind == 2 {
+            return Choice::Mover(task, deadline, Side::Lower);
+        }
+        Choice::Mover(task, deadline, Side::Upper)
+    }
 }
 
 // The best task so far, from 1 (0: none), and its key.
@@ -45,20 +81,28 @@ pub fn better_task(best: Best, task: usize, line: Line, state: State, core: usiz
     best
 }
 
+// A choice's kind, by its task's key.
+fn kind_of(key: u64) -> u64
+    ensures { λ r. ⌜ r ≡ kindBy key ⌝ }
+{
+    if key == 0 {
+        return 3;
+    }
+    if key == 1 { 2 } else { 1 }
+}
+
 impl Best {
-    // The choice that it is, by its state.
-    pub fn choice(self, state: State) -> Choice
+    // The choice that it is, by its state, in numbers.
+    pub fn told(self, state: State) -> Told
         requires { ⌜ 0 < self .task ⌝ }
-        ensures { λ r. ⌜ r ≡ choiceBy self (deadlineOf state) ⌝ }
+        ensures { λ r. ⌜ r ≡ toldOf (choiceBy self (deadlineOf state)) ⌝ }
     {
-        let task = self.task;
         let deadline = state.deadlines[0];
-        if self.key == 0 {
-            return Choice::Mover(task, deadline, Side::Upper);
+        let kind = kind_of(self.key);
+        Told {
+            kind: kind,
+            task: self.task,
+            deadline: deadline,
         }
-        if self.key == 1 {
-            return Choice::Mover(task, deadline, Side::Lower);
-        }
-        Choice::Fixed(task, deadline)
     }
 }

@@ -12,10 +12,11 @@ use Rattle.soundness.proofs.Facts.{tasks-few}
 use Rattle.task_state.specs.Key.{deadlineOf, waits}
 use Rattle.dispatch.specs.declared.Record.{Record}
 use Rattle.core_choice.specs.declared.Best.{Best}
-use Rattle.core_choice.specs.declared.Choice.{Choice}
+use Rattle.core_choice.specs.declared.Told.{Told}
 use Rattle.core_choice.specs.declared.Choice.the-variants.{Idle}
 use Rattle.dispatch.specs.Record.{lineAt, stateAt}
 use Rattle.core_choice.specs.Choice.{betterTask, choiceBy}
+use Rattle.core_choice.specs.Told.{toldOf}
 use Rattle.dispatch.specs.Look.{bestOf, choiceFor, choiceOf}
 use Rattle.dispatch.proofs.Held.{Held, waits-in}
 use Rattle.dispatch.proofs.Search.{Found, found}
@@ -53,11 +54,11 @@ module _ (r : Record) (k : ℕ) {b : Best} (e : b ≡ bestOf r k tasksLimit) whe
   best-task = let x = bestOf r k tasksLimit in rw e (found-below r k tasksLimit (x .task) (x .key) (found r k tasksLimit))
 
   -- nobody waits
-  pub choice-idle : b .task ≡ 0 → Idle ≡ choiceOf r k
+  pub told-idle : b .task ≡ 0 → toldOf Idle ≡ toldOf (choiceOf r k)
   unfolding choiceOf choiceFor
-  choice-idle z = rw (← e, eq-eqb (b .task) 0 z)
+  told-idle z = rw (← e, eq-eqb (b .task) 0 z)
 
   -- the choice that the best task is
-  pub choice-by : {c : Choice} → c ≡ choiceBy b (deadlineOf (stateAt r (b .task - 1))) → c ≡ choiceOf r k
+  pub told-by : {n : Told} → n ≡ toldOf (choiceBy b (deadlineOf (stateAt r (b .task - 1)))) → n ≡ toldOf (choiceOf r k)
   unfolding choiceOf choiceFor
-  choice-by q = rw (← e) q
+  told-by q = rw (← e) q

@@ -7,6 +7,9 @@ use Rattle.dispatch.proofs.Record.sound.Reads as Sound
 use Rattle.dispatch.proofs.Record.release.Reads as Release
 use Rattle.dispatch.proofs.Record.finish.Reads as Finish
 use Rattle.dispatch.proofs.Record.look.Reads as Look
+use Rattle.dispatch.proofs.Record.release_or.Reads as ReleaseOr
+use Rattle.dispatch.proofs.Record.finish_or.Reads as FinishOr
+use Rattle.dispatch.proofs.Record.look_or.Reads as LookOr
 use Rattle.dispatch.proofs.Record.call.Reads as Call
 
 pub of : Settled Of.Post
@@ -26,6 +29,15 @@ finish κs a x y e f p q = p ∙ sym q
 
 pub look : Settled Look.Post
 look κs a x y e f p q = p ∙ sym q
+
+pub release-or : Settled ReleaseOr.Post
+release-or κs a x y e f p q = p ∙ sym q
+
+pub finish-or : Settled FinishOr.Post
+finish-or κs a x y e f p q = p ∙ sym q
+
+pub look-or : Settled LookOr.Post
+look-or κs a x y e f p q = p ∙ sym q
 
 pub call : Settled Call.Post
 call κs a x y e f p q = p ∙ sym q

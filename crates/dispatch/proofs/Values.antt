@@ -20,26 +20,13 @@ use Rattle.dispatch.specs.Finish.{takeFinish, refuseFinish, finishOf}
 use Rattle.dispatch.specs.Look.{lookOf}
 use Rattle.dispatch.specs.Calls.{refusalIn, answeredOf}
 use Rattle.dispatch.specs.Choice.{Waits, deadlineAt, UpperOn, LowerOn, FixedOn, GoesFirst, Chosen, idle, as-upper, as-lower, as-fixed}
-use Rattle.dispatch.specs.Values.{choiceKind, choiceTask, choiceDeadline, valuesOf}
+use Rattle.core_choice.specs.Told.{choiceKind, choiceTask, choiceDeadline}
+use Rattle.core_choice.proofs.Numbers.{told-same}
+use Rattle.dispatch.specs.Values.{valuesOf}
 
--- the choice of a kind, a task and a deadline
-abbrev told : ℕ → ℕ → ℕ → Choice
-told k i d = cond (eqb k 0) Idle (cond (eqb k 1) (Fixed i (ticks d)) (cond (eqb k 2) (Mover i (ticks d) Lower) (Mover i (ticks d) Upper)))
-
-told-again : (c : Choice) → told (choiceKind c) (choiceTask c) (choiceDeadline c) ≡ c
-told-again Idle = refl
-told-again (Fixed i d) = refl
-told-again (Mover i d Upper) = refl
-told-again (Mover i d Lower) = refl
-
--- so its numbers settle a choice
+-- its numbers settle a choice
 pub choice-same : (a b : Choice) → choiceKind a ≡ choiceKind b → choiceTask a ≡ choiceTask b → choiceDeadline a ≡ choiceDeadline b → a ≡ b
-choice-same a b k i d =
-    sym (told-again a)
-    ∙ ap (λ (n : ℕ). told n (choiceTask a) (choiceDeadline a)) k
-    ∙ ap (λ (n : ℕ). told (choiceKind b) n (choiceDeadline a)) i
-    ∙ ap (λ (n : ℕ). told (choiceKind b) (choiceTask b) n) d
-    ∙ told-again b
+choice-same a b k i d = told-same a b (rw (k, i, d))
 
 -- the choice that document 01 describes, in numbers
 pub chosen-told : {r : Record} {k : ℕ} {x : Choice} → Chosen r k x

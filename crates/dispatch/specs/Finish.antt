@@ -2,7 +2,8 @@
 use Prim.Native.Nat.{ℕ, _-_}
 use mathlib.Core.Bool.{cond}
 use lib.Dec.{eqb}
-use lib.IntN.{pos, subℕ}
+use lib.IntN.{ℤ, pos, subℕ}
+use Rattle.units.specs.Refusals.{orKept}
 use Rattle.task_state.specs.State.{runAt}
 use Rattle.task_state.specs.Runs.{withoutRun}
 use Rattle.dispatch.specs.declared.Record.{Record}
@@ -25,3 +26,7 @@ refuseFinish n r = record { refusal = n; late = pos 0; next = r }
 -- finish
 unfoldable pub finishOf : Record → ℕ → ℕ → Finished
 finishOf r i t = cond (eqb (finishRefusal r i t) 0) (takeFinish r i t) (refuseFinish (finishRefusal r i t) r)
+
+-- finish, with a lateness that is answered where it is refused
+unfoldable pub finishOr : Record → ℕ → ℕ → ℤ → Finished
+finishOr r i t late = let a = finishOf r i t in record { refusal = a .refusal; late = orKept (a .refusal) (a .late) late; next = a .next }

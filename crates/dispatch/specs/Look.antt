@@ -4,13 +4,17 @@ use mathlib.Core.Bool.{cond}
 use lib.Dec.{eqb}
 use Rattle.units.specs.Limits.{tasksLimit}
 use Rattle.units.specs.Units.{ticks}
+use Rattle.units.specs.Refusals.{orKept}
 use Rattle.task_state.specs.Key.{deadlineOf}
 use Rattle.core_choice.specs.Choice.{betterTask, choiceBy}
 use Rattle.dispatch.specs.declared.Record.{Record}
 use Rattle.core_choice.specs.declared.Choice.{Choice}
 use Rattle.core_choice.specs.declared.Choice.the-variants.{Idle}
 use Rattle.core_choice.specs.declared.Best.{Best}
+use Rattle.core_choice.specs.declared.Told.{Told}
+use Rattle.core_choice.specs.Told.{toldOf}
 use Rattle.dispatch.specs.declared.look.Looked.{Looked}
+use Rattle.dispatch.specs.declared.look.LookedTold.{LookedTold}
 use Rattle.dispatch.specs.Record.{lineAt, stateAt}
 use Rattle.dispatch.specs.Refusals.{lookRefusal}
 
@@ -37,3 +41,7 @@ lookOf r k t =
     cond (eqb (lookRefusal r k t) 0)
     (record { refusal = 0; choice = choiceOf r k; next = atTime r t })
     (record { refusal = lookRefusal r k t; choice = Idle; next = r })
+
+-- look in numbers, with those that are answered where it is refused
+unfoldable pub lookOr : Record → ℕ → ℕ → Told → LookedTold
+lookOr r k t told = let a = lookOf r k t in record { refusal = a .refusal; told = orKept (a .refusal) (toldOf (a .choice)) told; next = a .next }

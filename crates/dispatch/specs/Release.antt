@@ -3,6 +3,8 @@ use Prim.Native.Nat.{ℕ, _+_, _-_}
 use mathlib.Core.Bool.{cond}
 use lib.Dec.{eqb}
 use Rattle.units.specs.Units.{ticks}
+use Rattle.units.specs.Refusals.{orKept}
+use Rattle.units.specs.declared.ticks.Ticks.{Ticks}
 use Rattle.task_state.specs.Runs.{turnAt, withRun}
 use Rattle.dispatch.specs.declared.Record.{Record}
 use Rattle.dispatch.specs.declared.release.Released.{Released}
@@ -25,3 +27,9 @@ refuseRelease n r = record { refusal = n; core = 0; deadline = ticks 0; next = r
 -- release
 unfoldable pub releaseOf : Record → ℕ → ℕ → Released
 releaseOf r i t = cond (eqb (releaseRefusal r i t) 0) (takeRelease r i t) (refuseRelease (releaseRefusal r i t) r)
+
+-- release, with a core and a deadline that are answered where it is refused
+unfoldable pub releaseOr : Record → ℕ → ℕ → ℕ → Ticks → Released
+releaseOr r i t core deadline =
+    let a = releaseOf r i t in
+    record { refusal = a .refusal; core = orKept (a .refusal) (a .core) core; deadline = orKept (a .refusal) (a .deadline) deadline; next = a .next }

@@ -1,30 +1,9 @@
 -- Document 01's number and values for each case of an answer. What a case does not say is 0.
 use Prim.Native.Nat.{ℕ}
 use lib.IntN.{ℤ, pos}
-use Rattle.core_choice.specs.declared.Side.the-variants.{Upper, Lower}
-use Rattle.core_choice.specs.declared.Choice.{Choice}
-use Rattle.core_choice.specs.declared.Choice.the-variants.{Idle, Fixed, Mover}
+use Rattle.core_choice.specs.Told.{choiceKind, choiceTask, choiceDeadline}
 use Rattle.dispatch.specs.declared.call.Answer.{Answer}
 use Rattle.dispatch.specs.declared.call.Answer.the-variants.{Refused, Released, Finished, Looked}
-
--- a choice's kind: idle, a fixed task, a lower mover, an upper mover
-abbrev pub choiceKind : Choice → ℕ
-choiceKind Idle = 0
-choiceKind (Fixed i d) = 1
-choiceKind (Mover i d Lower) = 2
-choiceKind (Mover i d Upper) = 3
-
--- its task, from 1
-abbrev pub choiceTask : Choice → ℕ
-choiceTask Idle = 0
-choiceTask (Fixed i d) = i
-choiceTask (Mover i d side) = i
-
--- its deadline
-abbrev pub choiceDeadline : Choice → ℕ
-choiceDeadline Idle = 0
-choiceDeadline (Fixed i d) = d .0
-choiceDeadline (Mover i d side) = d .0
 
 -- every number that a call can answer
 pub record Values : Type 0 where

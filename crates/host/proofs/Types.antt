@@ -8,14 +8,16 @@ use Rattle.exports.proofs.TwoOuts as TwoOuts
 use Rattle.exports.proofs.ListInto as ListInto
 use Rattle.dispatch.proofs.Record
 use Rattle.dispatch.proofs.Record.Laws as Record′
-use Rattle.lent_calls.proofs.Told
-use Rattle.lent_calls.proofs.Told.Laws as Told′
-use Rattle.lent_calls.proofs.LentRelease
-use Rattle.lent_calls.proofs.LentRelease.Laws as LentRelease′
-use Rattle.lent_calls.proofs.LentFinish
-use Rattle.lent_calls.proofs.LentFinish.Laws as LentFinish′
-use Rattle.lent_calls.proofs.LentLook
-use Rattle.lent_calls.proofs.LentLook.Laws as LentLook′
+use Rattle.units.proofs.ticks.Ticks
+use Rattle.units.proofs.ticks.Ticks.Laws as Ticks′
+use Rattle.core_choice.proofs.Told
+use Rattle.core_choice.proofs.Told.Laws as Told′
+use Rattle.dispatch.proofs.release.Released
+use Rattle.dispatch.proofs.release.Released.Laws as Released′
+use Rattle.dispatch.proofs.finish.Finished
+use Rattle.dispatch.proofs.finish.Finished.Laws as Finished′
+use Rattle.dispatch.proofs.look.LookedTold
+use Rattle.dispatch.proofs.look.LookedTold.Laws as LookedTold′
 use Rattle.host.proofs.dispatcher.LentStart
 use Rattle.host.proofs.dispatcher.LentStart.Laws as LentStart′
 use Rattle.host.proofs.dispatcher.LentList
@@ -23,6 +25,9 @@ use Rattle.host.proofs.dispatcher.LentList.Laws as LentList′
 
 abbrev pub held : Held
 held = declared Record.the-type Record′.the-laws Record′.the-plain
+
+abbrev pub time : Held
+time = declared Ticks.the-type Ticks′.the-laws Ticks′.the-plain
 
 abbrev pub told : Held
 told = declared Told.the-type Told′.the-laws Told′.the-plain
@@ -38,41 +43,41 @@ started = record {
   parts = λ x vs p. let q = LL.owed LentStart.the-type LentStart′.the-laws x vs p in (q .0, q .1 .0);
 }
 
-abbrev pub released : TwoOuts.After (number w64) (number w64) held
+abbrev pub released : TwoOuts.After (number w64) time held
 released = record {
-  type = LentRelease.the-type;
-  plain = LentRelease′.the-plain;
+  type = Released.the-type;
+  plain = Released′.the-plain;
   refusal = λ x. x .refusal;
   one = λ x. x .core;
   two = λ x. x .deadline;
   next = λ x. x .next;
-  tells = LL.tells LentRelease.the-type LentRelease′.the-laws;
-  typed = λ 𝓤 H A W. LL.lawful LentRelease.the-type LentRelease′.the-laws 𝓤 H A W .typed;
-  parts = λ x vs p. let q = LL.owed LentRelease.the-type LentRelease′.the-laws x vs p in (q .0, q .1 .0, q .1 .1 .0, q .1 .1 .1 .0);
+  tells = LL.tells Released.the-type Released′.the-laws;
+  typed = λ 𝓤 H A W. LL.lawful Released.the-type Released′.the-laws 𝓤 H A W .typed;
+  parts = λ x vs p. let q = LL.owed Released.the-type Released′.the-laws x vs p in (q .0, q .1 .0, q .1 .1 .0, q .1 .1 .1 .0);
 }
 
 abbrev pub finished : OneOut.After (signed w64) held
 finished = record {
-  type = LentFinish.the-type;
-  plain = LentFinish′.the-plain;
+  type = Finished.the-type;
+  plain = Finished′.the-plain;
   refusal = λ x. x .refusal;
   out = λ x. x .late;
   next = λ x. x .next;
-  tells = LL.tells LentFinish.the-type LentFinish′.the-laws;
-  typed = λ 𝓤 H A W. LL.lawful LentFinish.the-type LentFinish′.the-laws 𝓤 H A W .typed;
-  parts = λ x vs p. let q = LL.owed LentFinish.the-type LentFinish′.the-laws x vs p in (q .0, q .1 .0, q .1 .1 .0);
+  tells = LL.tells Finished.the-type Finished′.the-laws;
+  typed = λ 𝓤 H A W. LL.lawful Finished.the-type Finished′.the-laws 𝓤 H A W .typed;
+  parts = λ x vs p. let q = LL.owed Finished.the-type Finished′.the-laws x vs p in (q .0, q .1 .0, q .1 .1 .0);
 }
 
 abbrev pub looked : OneOut.After told held
 looked = record {
-  type = LentLook.the-type;
-  plain = LentLook′.the-plain;
+  type = LookedTold.the-type;
+  plain = LookedTold′.the-plain;
   refusal = λ x. x .refusal;
-  out = λ x. x .choice;
+  out = λ x. x .told;
   next = λ x. x .next;
-  tells = LL.tells LentLook.the-type LentLook′.the-laws;
-  typed = λ 𝓤 H A W. LL.lawful LentLook.the-type LentLook′.the-laws 𝓤 H A W .typed;
-  parts = λ x vs p. let q = LL.owed LentLook.the-type LentLook′.the-laws x vs p in (q .0, q .1 .0, q .1 .1 .0);
+  tells = LL.tells LookedTold.the-type LookedTold′.the-laws;
+  typed = λ 𝓤 H A W. LL.lawful LookedTold.the-type LookedTold′.the-laws 𝓤 H A W .typed;
+  parts = λ x vs p. let q = LL.owed LookedTold.the-type LookedTold′.the-laws x vs p in (q .0, q .1 .0, q .1 .1 .0);
 }
 
 abbrev pub listed : ListInto.After (signed w64)

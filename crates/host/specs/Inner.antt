@@ -6,13 +6,13 @@ use lib.Dec.{eqb}
 use lib.IntN.{ℤ, pos}
 use lib.ListN.{length}
 use Rattle.units.specs.Limits.{tasksLimit}
+use Rattle.units.specs.Refusals.{orKept}
 use Rattle.lists.specs.Lists.{zeros}
 use Rattle.little_endian.specs.Number.{numbersOf}
 use Rattle.admission.specs.Refusals.{noTable}
 use Rattle.dispatch.specs.declared.Record.{Record}
 use Rattle.dispatch.specs.declared.plan.Fresh.{Fresh}
 use Rattle.listing.specs.declared.listed.Listed.{Listed}
-use Rattle.lent_calls.specs.Lent.{orKept}
 use Rattle.host.specs.declared.bytes.Table.{Table}
 use Rattle.host.specs.declared.dispatcher.LentStart.{LentStart}
 use Rattle.host.specs.declared.dispatcher.LentList.{LentList}

@@ -1,20 +1,22 @@
 // The dispatcher for the host, on a record that it lends: planning, release, finish, look and the listing. Each loads, makes one call by value and stores.
 use crate::bytes::table_of;
+use core_choice::Told;
 use dispatch::Record;
-use lent_calls::Told;
-use lent_calls::finish;
-use lent_calls::look;
-use lent_calls::release;
+use dispatch::finish::Finished;
+use dispatch::look::LookedTold;
+use dispatch::release::Released;
 use listing::listed::list;
+use units::ticks::Ticks;
 ghost use mathlib.Core.Path.{_≡_};
 ghost use lib.IntN.{pos};
 ghost use lib.ListN.{length};
+ghost use Rattle.units.specs.Refusals.{orKept};
 ghost use Rattle.dispatch.specs.Record.{freshOf};
-ghost use Rattle.dispatch.specs.Release.{releaseOf};
-ghost use Rattle.dispatch.specs.Finish.{finishOf};
-ghost use Rattle.dispatch.specs.Look.{lookOf};
+ghost use Rattle.dispatch.specs.Release.{releaseOf, releaseOr};
+ghost use Rattle.dispatch.specs.Finish.{finishOf, finishOr};
+ghost use Rattle.dispatch.specs.Look.{lookOf, lookOr};
 ghost use Rattle.listing.specs.Listed.{listedOf, bufferAfter};
-ghost use Rattle.lent_calls.specs.Lent.{orKept, toldOf};
+ghost use Rattle.core_choice.specs.Told.{toldOf};
 ghost use Rattle.host.specs.Host.{tableIn};
 ghost use Rattle.host.specs.Inner.{startLent, listLent};
 
@@ -55,6 +57,13 @@ pub extern "C" fn yagomila_start(held: &mut Record, cores: u32, table: &[u8]) ->
     after.refusal
 }
 
+// A release at a time in plain ticks, as C hands it.
+fn release(held: Record, task: usize, time: u64, core: usize, deadline: Ticks) -> Released
+    ensures { λ r. ⌜ r ≡ releaseOr held task time core deadline ⌝ }
+{
+    held.release_or(task, Ticks(time), core, deadline)
+}
+
 // A release: 0 with the run's core and deadline, or the refusal.
 #[no_mangle]
 pub extern "C" fn yagomila_release(
@@ -62,18 +71,25 @@ pub extern "C" fn yagomila_release(
     task: usize,
     time: u64,
     core: &mut usize,
-    deadline: &mut u64,
+    deadline: &mut Ticks,
 ) -> u32
     ensures { λ r. ⌜ (let a = releaseOf (now (held .entry)) task time in
         (r ≡ a .refusal) × (now (held .exit) ≡ a .next)
         × (now (core .exit) ≡ orKept (a .refusal) (a .core) (now (core .entry)))
-        × (now (deadline .exit) ≡ orKept (a .refusal) (a .deadline .0) (now (deadline .entry)))) ⌝ }
+        × (now (deadline .exit) ≡ orKept (a .refusal) (a .deadline) (now (deadline .entry)))) ⌝ }
 {
     let after = release(*held, task, time, *core, *deadline);
     *held = after.next;
     *core = after.core;
     *deadline = after.deadline;
     after.refusal
+}
+
+// A finish, so too.
+fn finish(held: Record, task: usize, time: u64, late: i64) -> Finished
+    ensures { λ r. ⌜ r ≡ finishOr held task time late ⌝ }
+{
+    held.finish_or(task, Ticks(time), late)
 }
 
 // A finish: 0 with the time less the deadline, or the refusal.
@@ -88,6 +104,13 @@ pub extern "C" fn yagomila_finish(held: &mut Record, task: usize, time: u64, lat
     after.refusal
 }
 
+// A look, so too.
+fn look(held: Record, core: usize, time: u64, choice: Told) -> LookedTold
+    ensures { λ r. ⌜ r ≡ lookOr held core time choice ⌝ }
+{
+    held.look_or(core, Ticks(time), choice)
+}
+
 // A look: 0 with the core's choice, or the refusal.
 #[no_mangle]
 pub extern "C" fn yagomila_look(held: &mut Record, core: usize, time: u64, choice: &mut Told) -> u32
@@ -96,7 +119,7 @@ pub extern "C" fn yagomila_look(held: &mut Record, core: usize, time: u64, choic
 {
     let after = look(*held, core, time, *choice);
     *held = after.next;
-    *choice = after.choice;
+    *choice = after.told;
     after.refusal
 }
 

@@ -1,5 +1,7 @@
 -- Document 01, "Refusal numbers": a refusal, and the number of each case.
 use Prim.Native.Nat.{ℕ}
+use mathlib.Core.Bool.{cond}
+use lib.Dec.{eqb}
 use Rattle.units.specs.declared.refusal.Numbers.{Numbers}
 use Rattle.units.specs.declared.refusal.Refusal.{Refusal}
 
@@ -74,6 +76,10 @@ unsoundNo = 15
 -- the program's text can't be read
 abbrev pub textNo : ℕ
 textNo = 16
+
+-- what an accepted call answers; what was lent for it where the call is refused
+abbrev pub orKept : {A : Type 0} → ℕ → A → A → A
+orKept n answered lent = cond (eqb n 0) answered lent
 
 -- all of them
 abbrev pub theNumbers : Numbers
