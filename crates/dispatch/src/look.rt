@@ -52,19 +52,20 @@ impl Record {
         let mut chosen = told;
         if no == 0 {
             let lines = self.plan.lines;
+            let states = self.states;
             let count = self.plan.count;
             chosen = Told::IDLE;
             let mut best = Best { task: 0, key: 0 };
             let mut i: usize = 0;
             while i < count {
                 let line = lines[i];
-                let state = self.states[i];
+                let state = states[i];
                 i += 1;
                 best = better_task(best, i, line, state, core);
             }
             if 0 < best.task {
                 let at = best.task - 1;
-                let state = self.states[at];
+                let state = states[at];
                 chosen = best.told(state);
             }
             self.clock = time;

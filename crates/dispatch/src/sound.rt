@@ -35,11 +35,10 @@ impl Record {
         if CLOCK < self.clock.0 {
             return false;
         }
-        let plan = self.plan;
-        if !plan_sound(plan) {
+        if !plan_sound(self.plan) {
             return false;
         }
         let states = self.states;
-        states_sound(plan, states)
+        states_sound(self.plan, states)
     }
 }

@@ -15,10 +15,10 @@ use Rattle.dispatch.proofs.Record.look_or.Statement.{statement}
 use Rattle.dispatch.proofs.Record.look_or.Tie as tie
 
 abbrev Inv-loop : tie.InvT-loop
-Inv-loop core time self sound cores no' chosen lines count best₀ i₀ best i = (i ≤ count) × (best ≡ bestOf self core i)
+Inv-loop self core time sound cores no' chosen lines states count best₀ i₀ best i = (i ≤ count) × (best ≡ bestOf self core i)
 
 abbrev μ-loop : tie.MeasureT-loop
-μ-loop core time self sound cores no' chosen lines count best₀ i₀ best i = count - i
+μ-loop self core time sound cores no' chosen lines states count best₀ i₀ best i = count - i
 
 sound-requires : tie.Need-sound-requires Inv-loop μ-loop
 sound-requires c κs = search needs
@@ -31,19 +31,19 @@ shared-tests-requires c κs = search needs
 
 -- the places where the call begins, and where it has passed its tests
 abbrev start : tie.Then1 Inv-loop μ-loop → tie.Start Inv-loop μ-loop
-start c = c .before .before .before .before
+start c = c .before .before .before .before .before
 
 abbrev passed : tie.At-loop Inv-loop μ-loop → tie.Then1 Inv-loop μ-loop
-passed c = c .before .before
+passed c = c .before .before .before
 
 -- the look's number
-own : (c : tie.After-shared-tests Inv-loop μ-loop) → let s = c .before .before .before .args in
-    c .shared-tests .result ≡ lookRefusal (s .t1) (s .core) (s .time .0)
+own : (c : tie.After-shared-tests Inv-loop μ-loop) → let s = c .before .before .before .before .args in
+    c .shared-tests .result ≡ lookRefusal (s .self) (s .core) (s .time .0)
 unfolding lookRefusal
-own c = rw (c .before .sound .ensures) at (c .shared-tests .ensures)
+own c = rw (c .before .before .sound .ensures) at (c .shared-tests .ensures)
 
 -- what is known if none applies
-known : (c : tie.Then1 Inv-loop μ-loop) → let s = start c .args in CoreCall (s .t1) (s .core)
+known : (c : tie.Then1 Inv-loop μ-loop) → let s = start c .args in CoreCall (s .self) (s .core)
 known c = core-call (start c .args .time .0) (sym (own (c .before)) ∙ c .if1 .taken)
 
 loop-holds : tie.Need-loop-holds Inv-loop μ-loop
@@ -59,8 +59,8 @@ array-copy-out-line c = omega (arith, known (passed (c .before)) .tasks)
 mul-state : tie.Need-mul-state Inv-loop μ-loop
 mul-state c = omega (arith, known (passed (c .before .before)) .tasks)
 
-element-copy-out-state : tie.Need-element-copy-out-state Inv-loop μ-loop
-element-copy-out-state c = omega (arith, known (passed (c .before .before)) .tasks)
+array-copy-out-state : tie.Need-array-copy-out-state Inv-loop μ-loop
+array-copy-out-state c = omega (arith, known (passed (c .before .before)) .tasks)
 
 add-i : tie.Need-add-i Inv-loop μ-loop
 add-i c = omega (arith, known (passed (c .before .before .before)) .tasks)
@@ -78,18 +78,18 @@ loop-again : tie.Need-loop-again Inv-loop μ-loop
 loop-again c =
     let at = c .before .before .before .before in
     let s = start (passed at) .args in
-    (omega arith, best-more (s .t1) (s .core) (at .loop .i) (at .loop .inv .1) (c .better-task .ensures))
+    (omega arith, best-more (s .self) (s .core) (at .loop .i) (at .loop .inv .1) (c .better-task .ensures))
 
 -- the best of all tasks
-found : (c : tie.After-loop Inv-loop μ-loop) → let s = start (passed (c .before)) .args in c .before .loop .best ≡ bestOf (s .t1) (s .core) tasksLimit
+found : (c : tie.After-loop Inv-loop μ-loop) → let s = start (passed (c .before)) .args in c .before .loop .best ≡ bestOf (s .self) (s .core) tasksLimit
 found c =
     let k = passed (c .before) in
-    let e : c .before .loop .i ≡ start k .args .t1 .plan .count = omega arith in
+    let e : c .before .loop .i ≡ start k .args .self .plan .count = omega arith in
     (rw e at (c .before .loop .inv .1)) ∙ sym (known k .all)
 
 -- is one of them
 found-below : (c : tie.After-loop Inv-loop μ-loop) → c .before .loop .best .task ≤ tasksLimit
-found-below c = let s = start (passed (c .before)) .args in best-task (s .t1) (s .core) (found c)
+found-below c = let s = start (passed (c .before)) .args in best-task (s .self) (s .core) (found c)
 
 sub-at : tie.Need-sub-at Inv-loop μ-loop
 sub-at c = search needs
@@ -97,32 +97,32 @@ sub-at c = search needs
 mul-state-2 : tie.Need-mul-state-2 Inv-loop μ-loop
 mul-state-2 c = omega (arith, found-below (c .before .before .before))
 
-element-copy-out-state-2 : tie.Need-element-copy-out-state-2 Inv-loop μ-loop
-element-copy-out-state-2 c = omega (arith, found-below (c .before .before .before), c .before .if2 .taken)
+array-copy-out-state-2 : tie.Need-array-copy-out-state-2 Inv-loop μ-loop
+array-copy-out-state-2 c = omega (arith, found-below (c .before .before .before), c .before .if2 .taken)
 
 told-requires : tie.Need-told-requires Inv-loop μ-loop
 told-requires c κs = search needs
 
 -- the choice, whichever way it came
-chosen : (c : tie.Joined2 Inv-loop μ-loop) → let s = start (passed (c .before .before .before)) .args in c .if2 .chosen ≡ toldOf (choiceOf (s .t1) (s .core))
+chosen : (c : tie.Joined2 Inv-loop μ-loop) → let s = start (passed (c .before .before .before)) .args in c .if2 .chosen ≡ toldOf (choiceOf (s .self) (s .core))
 chosen c =
     let s = start (passed (c .before .before .before)) .args in
     let e = found (c .before .before) in
     ⊎-elim
-    (λ t. t .4 ∙ told-by (s .t1) (s .core) e (t .3 .ensures))
-    (λ t. t .1 ∙ told-idle (s .t1) (s .core) e (omega (arith, t .0 .left)))
+    (λ t. t .4 ∙ told-by (s .self) (s .core) e (t .3 .ensures))
+    (λ t. t .1 ∙ told-idle (s .self) (s .core) e (omega (arith, t .0 .left)))
     (c .if2 .came)
 
 returns : tie.Need-returns Inv-loop μ-loop
 returns c =
     let k = passed (c .before .before .before) in
     let s = start k .args in
-    sym (look-or-taken (s .t1) (s .core) (s .time .0) (s .told) (own (k .before)) (k .if1 .taken) (chosen c))
+    sym (look-or-taken (s .self) (s .core) (s .time .0) (s .told) (own (k .before)) (k .if1 .taken) (chosen c))
 
 returns-2 : tie.Need-returns-2 Inv-loop μ-loop
 returns-2 c =
-    let s = c .before .before .before .before .args in
-    sym (look-or-refused (s .t1) (s .core) (s .time .0) (s .told) (own (c .before)) (c .if1 .left))
+    let s = c .before .before .before .before .before .args in
+    sym (look-or-refused (s .self) (s .core) (s .time .0) (s .told) (own (c .before)) (c .if1 .left))
 
 pub look-or-spec : {M : Type 1} → statement M
 look-or-spec =
@@ -137,14 +137,14 @@ look-or-spec =
     mul-line
     array-copy-out-line
     mul-state
-    element-copy-out-state
+    array-copy-out-state
     add-i
     better-task-requires
     loop-less
     loop-again
     sub-at
     mul-state-2
-    element-copy-out-state-2
+    array-copy-out-state-2
     told-requires
     returns
     returns-2)

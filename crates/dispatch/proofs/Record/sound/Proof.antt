@@ -19,9 +19,9 @@ plan-sound-requires c κs = search needs
 returns-2 : tie.Need-returns-2
 unfolding soundOf
 returns-2 c =
-    let r = c .before .before .before .before .before .args .self in
+    let r = c .before .before .before .before .args .self in
     let e : planSound (r .plan) ≡ false = sym (c .before .plan-sound .ensures) ∙ not-true (c .before .plan-sound .result) (c .if2 .taken) in
-    sym (rw (le-leb (r .clock .0) clockLimit (c .before .before .before .if1 .left), e))
+    sym (rw (le-leb (r .clock .0) clockLimit (c .before .before .if1 .left), e))
 
 states-sound-requires : tie.Need-states-sound-requires
 states-sound-requires c κs = search needs
@@ -29,10 +29,10 @@ states-sound-requires c κs = search needs
 returns-3 : tie.Need-returns-3
 unfolding soundOf
 returns-3 c =
-    let r = c .before .before .before .before .before .before .before .args .self in
+    let r = c .before .before .before .before .before .before .args .self in
     let p = c .before .before .before .plan-sound in
     let e : planSound (r .plan) ≡ true = sym (p .ensures) ∙ not-false (p .result) (c .before .before .if2 .left) in
-    c .states-sound .ensures ∙ sym (rw (le-leb (r .clock .0) clockLimit (c .before .before .before .before .before .if1 .left), e))
+    c .states-sound .ensures ∙ sym (rw (le-leb (r .clock .0) clockLimit (c .before .before .before .before .if1 .left), e))
 
 pub sound-spec : {M : Type 1} → statement M
 sound-spec =
