@@ -1,17 +1,44 @@
-/* An example of a host: it asks for document 01's plan, prints the listing, and then asks for what is refused. */
+/*
+ * An example of a host: a small box. It plans a list, plays a script of arrivals tick by tick, and prints what the calls
+ * answer; then it asks for what is refused, and shows that no byte that it lent has changed.
+ */
 #include <stdio.h>
 #include <string.h>
 
 #include "yagomila.h"
 
-/* Cost and period of each task. */
-static const uint32_t tasks[][2] = {{5, 6}, {4, 6}, {2, 3}, {2, 3}, {2, 3}, {1, 2}};
-
-#define TASKS (sizeof tasks / sizeof tasks[0])
+#define CORES 2
+#define TASKS 3
 #define TABLE_LEN (TASKS * YAGOMILA_TASK_BYTES)
+/* The box is played for so many ticks. */
+#define TICKS 13
 
-static uint8_t table[TABLE_LEN];
-static uint8_t buf[YAGOMILA_LISTING_MAX];
+/* Cost and period of each task: a run takes its whole cost here. */
+static const uint32_t tasks[TASKS][2] = {{2, 3}, {2, 3}, {2, 3}};
+
+/* The script: when a run arrives, and of which task. Task 3 comes too early at 2, and there is no task 4. */
+static const struct {
+    uint64_t time;
+    size_t task;
+} arrivals[] = {{0, 1}, {0, 2}, {0, 3}, {2, 3}, {3, 1}, {3, 2}, {3, 3}, {6, 3}, {8, 2}, {9, 4}, {9, 3}, {12, 1}};
+
+#define ARRIVALS (sizeof arrivals / sizeof arrivals[0])
+
+/* All that is lent to the calls, in one place, so that it can be compared as a whole. */
+static struct {
+    yagomila_record held;
+    yagomila_choice choice;
+    uint64_t deadline;
+    int64_t late;
+    int64_t len;
+    size_t core;
+    uint8_t table[TABLE_LEN];
+    uint8_t buf[YAGOMILA_LISTING_MAX];
+} lent, before;
+
+/* What each core runs, and the ticks that each task's oldest run has had: a real box knows both by itself. */
+static yagomila_choice running[CORES + 1];
+static uint32_t ticks_had[TASKS + 1];
 static int wrong;
 
 /* A number as the table wants it, whatever the host's own order of bytes. */
@@ -26,60 +53,156 @@ static void put_table(void)
 {
     size_t i;
     for (i = 0; i < TASKS; i++) {
-        put_number(table + YAGOMILA_TASK_BYTES * i, tasks[i][0]);
-        put_number(table + YAGOMILA_TASK_BYTES * i + 4, tasks[i][1]);
+        put_number(lent.table + YAGOMILA_TASK_BYTES * i, tasks[i][0]);
+        put_number(lent.table + YAGOMILA_TASK_BYTES * i + 4, tasks[i][1]);
     }
 }
 
-/* A line for a table that is asked for admission. */
-static void ask_admit(const char *what, uint32_t cores, const uint8_t *bytes, size_t len, uint32_t expected)
+/* A run arrives. What is refused is dropped here; a real box may hold an early one back. */
+static void release(size_t task, uint64_t now)
 {
-    uint32_t answer = yagomila_admit(cores, bytes, len);
-    printf("%s: admission %lu\n", what, (unsigned long)answer);
-    if (answer != expected)
-        wrong = 1;
+    uint32_t refusal = yagomila_release(&lent.held, task, now, &lent.core, &lent.deadline);
+    printf("at %lu release %lu: ", (unsigned long)now, (unsigned long)task);
+    if (refusal != 0)
+        printf("refused %lu\n", (unsigned long)refusal);
+    else
+        printf("core %lu deadline %lu\n", (unsigned long)lent.core, (unsigned long)lent.deadline);
 }
 
-/* A line for a listing that is refused; a refusal leaves the buffer as it was. */
-static void ask_refused(const char *what, uint32_t cores, const uint8_t *bytes, size_t len, size_t room, int64_t expected)
+/* A task's oldest run ends. */
+static void finish(size_t task, uint64_t now)
 {
-    int64_t answer;
-    size_t i;
-    int same = 1;
-    memset(buf, '.', sizeof buf);
-    answer = yagomila_listing(cores, bytes, len, room == 0 ? NULL : buf, room);
-    for (i = 0; i < sizeof buf; i++)
-        same = same && buf[i] == '.';
-    printf("%s: listing %ld, buffer %s\n", what, (long)answer, same ? "unchanged" : "changed");
+    uint32_t refusal = yagomila_finish(&lent.held, task, now, &lent.late);
+    printf("at %lu finish %lu: ", (unsigned long)now, (unsigned long)task);
+    if (refusal != 0)
+        printf("refused %lu\n", (unsigned long)refusal);
+    else
+        printf("late %ld\n", (long)lent.late);
+}
+
+/* A core is told what to run; where that is something else than before, a real box switches there. */
+static void look(size_t core, uint64_t now)
+{
+    static const char *const kinds[] = {"idle", "fixed", "lower", "upper"};
+    const yagomila_choice *choice = &lent.choice;
+    if (yagomila_look(&lent.held, core, now, &lent.choice) != 0) {
+        wrong = 1; /* the core and the time are this program's own, so no look is refused */
+        return;
+    }
+    if (memcmp(&running[core], choice, sizeof *choice) == 0)
+        return;
+    running[core] = *choice;
+    printf("at %lu look %lu: %s", (unsigned long)now, (unsigned long)core, kinds[choice->kind]);
+    if (choice->kind != YAGOMILA_IDLE)
+        printf(" %lu deadline %lu", (unsigned long)choice->task, (unsigned long)choice->deadline);
+    printf("\n");
+}
+
+/* Each core runs its choice for a tick; a run that has had its length ends at the next tick. */
+static void run_tick(uint64_t now)
+{
+    size_t core;
+    for (core = 1; core <= CORES; core++) {
+        size_t task = running[core].task;
+        if (running[core].kind == YAGOMILA_IDLE || ++ticks_had[task] < tasks[task - 1][0])
+            continue;
+        ticks_had[task] = 0;
+        finish(task, now + 1);
+    }
+}
+
+static void play(void)
+{
+    uint64_t now;
+    size_t i, core;
+    for (now = 0; now < TICKS; now++) {
+        for (i = 0; i < ARRIVALS; i++)
+            if (arrivals[i].time == now)
+                release(arrivals[i].task, now);
+        for (core = 1; core <= CORES; core++)
+            look(core, now);
+        run_tick(now);
+    }
+}
+
+/* A line for a call that is refused: what it answers, and whether any byte has changed that was lent. */
+static void refused(const char *what, int64_t answer, int64_t expected)
+{
+    int same = memcmp(&before, &lent, sizeof lent) == 0;
+    printf("%s answers %ld, %s changed\n", what, (long)answer, same ? "nothing" : "something");
     if (answer != expected || !same)
         wrong = 1;
 }
 
+/* Refusals of the calls on the record; its clock is at 12. */
+static void ask_dispatcher(size_t listing_len)
+{
+    yagomila_record *held = &lent.held;
+    memcpy(&before, &lent, sizeof lent);
+    refused("start on 17 cores", yagomila_start(held, 17, lent.table, TABLE_LEN), YAGOMILA_REFUSED_CORES);
+    refused("start with no table", yagomila_start(held, CORES, NULL, 0), YAGOMILA_REFUSED_TABLE);
+    refused("start with a table cut short", yagomila_start(held, CORES, lent.table, TABLE_LEN - 1), YAGOMILA_REFUSED_TABLE);
+    refused("start on 1 core", yagomila_start(held, 1, lent.table, TABLE_LEN), YAGOMILA_REFUSED_WEIGHTS);
+    refused("release of task 4", yagomila_release(held, 4, 13, &lent.core, &lent.deadline), YAGOMILA_REFUSED_NO_TASK);
+    refused("release past the clock's limit", yagomila_release(held, 1, UINT64_MAX, &lent.core, &lent.deadline), YAGOMILA_REFUSED_CLOCK);
+    refused("release before the clock", yagomila_release(held, 1, 11, &lent.core, &lent.deadline), YAGOMILA_REFUSED_PAST);
+    refused("release too early", yagomila_release(held, 1, 13, &lent.core, &lent.deadline), YAGOMILA_REFUSED_EARLY);
+    refused("finish of task 0", yagomila_finish(held, 0, 13, &lent.late), YAGOMILA_REFUSED_NO_TASK);
+    refused("finish before the clock", yagomila_finish(held, 1, 11, &lent.late), YAGOMILA_REFUSED_PAST);
+    refused("finish of no run", yagomila_finish(held, 2, 13, &lent.late), YAGOMILA_REFUSED_NO_RUN);
+    refused("look at core 3", yagomila_look(held, 3, 13, &lent.choice), YAGOMILA_REFUSED_NO_CORE);
+    refused("look before the clock", yagomila_look(held, 1, 11, &lent.choice), YAGOMILA_REFUSED_PAST);
+    refused("list in a buffer one byte short", yagomila_list(held, lent.buf, listing_len - 1, &lent.len), YAGOMILA_REFUSED_BUFFER);
+    refused("list in no buffer", yagomila_list(held, NULL, 0, &lent.len), YAGOMILA_REFUSED_BUFFER);
+}
+
+/* A record before its start, of zeros here, is unsound, as one is that was changed. */
+static void ask_unsound(void)
+{
+    yagomila_record *held = &lent.held;
+    memset(held, 0, sizeof *held);
+    memcpy(&before, &lent, sizeof lent);
+    refused("release on a record of zeros", yagomila_release(held, 1, 13, &lent.core, &lent.deadline), YAGOMILA_REFUSED_UNSOUND);
+    refused("finish on a record of zeros", yagomila_finish(held, 1, 13, &lent.late), YAGOMILA_REFUSED_UNSOUND);
+    refused("look on a record of zeros", yagomila_look(held, 1, 13, &lent.choice), YAGOMILA_REFUSED_UNSOUND);
+    refused("list of a record of zeros", yagomila_list(held, lent.buf, sizeof lent.buf, &lent.len), YAGOMILA_REFUSED_UNSOUND);
+}
+
+/* Refusals of the two calls that need no record; a listing's are negative. */
+static void ask_table(size_t listing_len)
+{
+    const uint8_t *table = lent.table;
+    refused("admit on 1 core", yagomila_admit(1, table, TABLE_LEN), YAGOMILA_REFUSED_WEIGHTS);
+    refused("admit of no table", yagomila_admit(CORES, NULL, 0), YAGOMILA_REFUSED_TABLE);
+    refused("admit on 0 cores", yagomila_admit(0, table, TABLE_LEN), YAGOMILA_REFUSED_CORES);
+    refused("listing on 17 cores", yagomila_listing(17, table, TABLE_LEN, lent.buf, sizeof lent.buf), -YAGOMILA_REFUSED_CORES);
+    refused("listing of a table cut short", yagomila_listing(CORES, table, TABLE_LEN - 1, lent.buf, sizeof lent.buf), -YAGOMILA_REFUSED_TABLE);
+    refused("listing on 1 core and in no buffer", yagomila_listing(1, table, TABLE_LEN, NULL, 0), -YAGOMILA_REFUSED_WEIGHTS);
+    refused("listing in a buffer one byte short", yagomila_listing(CORES, table, TABLE_LEN, lent.buf, listing_len - 1), -YAGOMILA_REFUSED_BUFFER);
+    refused("listing in no buffer", yagomila_listing(CORES, table, TABLE_LEN, NULL, 0), -YAGOMILA_REFUSED_BUFFER);
+}
+
 int main(void)
 {
-    int64_t len;
+    uint32_t refusal;
+    size_t listing_len;
     put_table();
 
-    ask_admit("4 cores", 4, table, TABLE_LEN, 0);
-    len = yagomila_listing(4, table, TABLE_LEN, buf, sizeof buf);
-    if (len < 0) {
-        printf("4 cores: refused %ld\n", (long)-len);
+    refusal = yagomila_start(&lent.held, CORES, lent.table, TABLE_LEN);
+    if (refusal == 0)
+        refusal = yagomila_list(&lent.held, lent.buf, sizeof lent.buf, &lent.len);
+    if (refusal != 0) {
+        printf("refused %lu\n", (unsigned long)refusal);
         return 1;
     }
-    fwrite(buf, 1, (size_t)len, stdout);
+    listing_len = (size_t)lent.len;
+    fwrite(lent.buf, 1, listing_len, stdout);
 
-    ask_admit("3 cores", 3, table, TABLE_LEN, YAGOMILA_REFUSED_WEIGHTS);
-    ask_refused("3 cores", 3, table, TABLE_LEN, sizeof buf, -YAGOMILA_REFUSED_WEIGHTS);
-    ask_admit("a table cut short", 4, table, TABLE_LEN - 1, YAGOMILA_REFUSED_TABLE);
-    ask_refused("a table cut short", 4, table, TABLE_LEN - 1, sizeof buf, -YAGOMILA_REFUSED_TABLE);
-    ask_admit("no table", 4, NULL, 0, YAGOMILA_REFUSED_TABLE);
-    ask_refused("no table", 4, NULL, 0, sizeof buf, -YAGOMILA_REFUSED_TABLE);
-    ask_admit("0 cores", 0, table, TABLE_LEN, YAGOMILA_REFUSED_CORES);
-    ask_refused("17 cores", 17, table, TABLE_LEN, sizeof buf, -YAGOMILA_REFUSED_CORES);
-    ask_refused("0 cores and no table", 0, NULL, 0, sizeof buf, -YAGOMILA_REFUSED_CORES);
-    ask_refused("a buffer one byte short", 4, table, TABLE_LEN, (size_t)len - 1, -YAGOMILA_REFUSED_BUFFER);
-    ask_refused("no buffer", 4, table, TABLE_LEN, 0, -YAGOMILA_REFUSED_BUFFER);
-    ask_refused("3 cores and no buffer", 3, table, TABLE_LEN, 0, -YAGOMILA_REFUSED_WEIGHTS);
+    play();
+    finish(2, TICKS); /* a job that says once too often that it is done */
 
+    ask_dispatcher(listing_len);
+    ask_unsound();
+    ask_table(listing_len);
     return wrong;
 }
