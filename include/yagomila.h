@@ -12,7 +12,7 @@
  *   may run at the same time in several threads, as long as none writes what another reads.
  * - A table or a buffer may be null where its length is 0. Every other pointer is valid, aligned as its type is, and
  *   not null; what two pointers of one call lend does not overlap.
- * - A call needs stack: YAGOMILA_STACK_MAX is twice what was measured, and more. The proofs say nothing of the stack.
+ * - A call needs stack: YAGOMILA_STACK_MAX bytes are enough. That is measured; the proofs say nothing of the stack.
  *
  * Link with libhost.a, which is for x86-64 Linux and needs memcpy, memset, memmove and memcmp alone.
  */
@@ -65,7 +65,7 @@ extern "C" {
 #define YAGOMILA_TASK_BYTES 8
 /* A buffer of this many bytes is enough for the listing of any table that is taken. */
 #define YAGOMILA_LISTING_MAX 15960
-/* Free bytes of stack to have for a call: a release takes most, 93,400 bytes where it was measured. */
+/* Free bytes of stack to have for a call: at least twice what any call took where it was measured. */
 #define YAGOMILA_STACK_MAX 196608
 
 /*

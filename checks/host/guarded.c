@@ -344,6 +344,8 @@ int main(void)
             most = stack_of(k);
     }
     printf("\n");
-    want(2 * most <= YAGOMILA_STACK_MAX, "YAGOMILA_STACK_MAX is less than twice the stack that a call takes");
-    return 0;
+    if (2 * most <= YAGOMILA_STACK_MAX)
+        return 0;
+    fprintf(stderr, "guarded: YAGOMILA_STACK_MAX is less than twice the stack that a call takes\n");
+    return 1;
 }
