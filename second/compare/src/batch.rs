@@ -11,6 +11,8 @@ pub struct Case {
 pub struct Batch {
     pub head: Vec<u8>,
     pub cases: Vec<Case>,
+    /// Whether a case stands on those before it.
+    pub in_turn: bool,
 }
 
 /// The first case that the product answers otherwise.
@@ -29,22 +31,28 @@ impl Batch {
         Batch {
             head: Vec::new(),
             cases: vec![Case { input, answer, met }],
+            in_turn: false,
         }
     }
 
     /// What the process reads.
     pub fn input(&self) -> Vec<u8> {
-        let parts = self.cases.iter().map(|case| &case.input[..]);
+        self.input_of_cases(&self.cases)
+    }
+
+    /// What the process reads for one case, with those that it stands on.
+    pub fn input_of(&self, case: usize) -> Vec<u8> {
+        let first = if self.in_turn { 0 } else { case };
+        self.input_of_cases(&self.cases[first..=case])
+    }
+
+    fn input_of_cases(&self, cases: &[Case]) -> Vec<u8> {
+        let parts = cases.iter().map(|case| &case.input[..]);
         [&self.head[..]]
             .into_iter()
             .chain(parts)
             .collect::<Vec<_>>()
             .concat()
-    }
-
-    /// What the process reads for one case alone.
-    pub fn input_of(&self, case: usize) -> Vec<u8> {
-        [&self.head[..], &self.cases[case].input].concat()
     }
 
     /// Compares all that the product said, byte by byte and to the end.

@@ -1,4 +1,4 @@
-//! `compare --plan CMD --calls CMD --spoilt_records CMD --host CMD [--seed N] [--seconds S]`
+//! `compare --plan CMD --calls CMD --host CMD --lent_records CMD [--seed N] [--seconds S]`
 #![forbid(unsafe_code)]
 
 use compare::options::Options;

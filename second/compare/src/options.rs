@@ -16,8 +16,7 @@ pub struct Options {
 }
 
 impl Options {
-    pub const USAGE: &str =
-        "usage: compare --plan CMD --calls CMD --spoilt_records CMD --host CMD \
+    pub const USAGE: &str = "usage: compare --plan CMD --calls CMD --host CMD --lent_records CMD \
          [--seed N] [--seconds S]";
 
     /// Reads pairs of a name and its value.

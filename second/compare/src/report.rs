@@ -22,7 +22,7 @@ pub fn report(options: &Options, outcome: &Outcome) -> bool {
     }
     let missing = missing(options, outcome);
     if !missing.is_empty() {
-        println!("compare: refusals never met: {}", words(&missing));
+        println!("compare: refusals never met: {}", missing.join(", "));
     }
     println!("compare: seed {}, no difference", options.seed);
     missing.is_empty() || options.seconds < ENOUGH_SECONDS
@@ -45,18 +45,23 @@ fn report_kind(kind: &Kind, tally: &Tally) {
     println!("{}: refusals {}", kind.name, met.join(" "));
 }
 
-/// The refusals that the asked kinds can meet and none has met.
-fn missing(options: &Options, outcome: &Outcome) -> Vec<usize> {
+/// The refusals that no asked kind has met, though one can, and those that a kind must meet and has not.
+fn missing(options: &Options, outcome: &Outcome) -> Vec<String> {
     let asked = |kind: &usize| options.commands[*kind].is_some();
-    let can = |no: usize| {
-        let mut kinds = (0..KINDS.len()).filter(asked);
-        kinds.any(|kind| KINDS[kind].refusals.contains(&no))
-    };
-    let met = |no: usize| outcome.tallies.iter().any(|tally| tally.met[no] > 0);
-    (1..=REFUSALS).filter(|&no| can(no) && !met(no)).collect()
-}
-
-fn words(numbers: &[usize]) -> String {
-    let words: Vec<String> = numbers.iter().map(usize::to_string).collect();
-    words.join(" ")
+    let mut missing = Vec::new();
+    for no in 1..=REFUSALS {
+        let can = |kind: &usize| KINDS[*kind].refusals.contains(&no);
+        let kinds: Vec<usize> = (0..KINDS.len()).filter(asked).filter(can).collect();
+        let met = |kind: usize| outcome.tallies[kind].met[no] > 0;
+        if !kinds.is_empty() && !kinds.iter().any(|&kind| met(kind)) {
+            missing.push(no.to_string());
+            continue;
+        }
+        for kind in kinds {
+            if KINDS[kind].meets_all && !met(kind) {
+                missing.push(format!("{no} of {}", KINDS[kind].name));
+            }
+        }
+    }
+    missing
 }

@@ -35,7 +35,7 @@ impl Found {
     }
 }
 
-/// Saves the case alone, both answers and the whole batch, and says where.
+/// Saves the case with what it stands on, both answers and the whole batch, and says where.
 pub fn save(seed: u64, kind: &str, number: u64, batch: &Batch, found: &Found) -> io::Result<()> {
     let Difference { case, byte, said } = &found.difference;
     let right = &batch.cases[*case].answer;
@@ -51,7 +51,7 @@ pub fn save(seed: u64, kind: &str, number: u64, batch: &Batch, found: &Found) ->
     }
     println!("  product: {}", shown(said, *byte));
     println!("  second:  {}", shown(right, *byte));
-    println!("  the case alone is {}", file("in").display());
+    println!("  the case is {}", file("in").display());
     if batch.cases.len() > 1 {
         fs::write(file("batch.in"), batch.input())?;
         println!("  the whole batch is {}", file("batch.in").display());

@@ -5,7 +5,7 @@ use std::fs;
 use std::path::{Path, PathBuf};
 use std::process::{Command, Output};
 
-const KINDS: [&str; 4] = ["plan", "host", "calls", "spoilt_records"];
+const KINDS: [&str; 4] = ["plan", "host", "calls", "lent_records"];
 
 /// The example `stand_in`, which is built beside the program.
 fn stand_in() -> PathBuf {
@@ -49,7 +49,7 @@ fn right_answers() {
     }
 }
 
-/// A fault in one kind is found, named and saved, and the saved input is not empty.
+/// A fault in one kind is found, named and saved.
 fn finds(kind: &str, fault: &str) {
     let folder = folder(&format!("{kind}-{fault}"));
     let command = format!("{} {kind} {fault}", stand_in().display());
@@ -62,11 +62,18 @@ fn finds(kind: &str, fault: &str) {
     assert!(said.contains(&found), "{said}");
     let saved = fs::read_dir(folder.join("target/compare")).expect("a folder of inputs");
     let saved = saved.map(|file| file.expect("a file").path());
-    let inputs = saved.filter(|file| file.extension().is_some_and(|end| end == "in"));
-    for input in inputs {
-        let length = fs::metadata(&input).expect("the input is there").len();
-        assert!(length > 0, "{input:?} is empty");
+    for right in saved.filter(|file| file.extension().is_some_and(|end| end == "second")) {
+        answers_again(kind, &right);
     }
+}
+
+/// The saved case has, by itself, the answer that is saved beside it.
+fn answers_again(kind: &str, right: &Path) {
+    let input = fs::File::open(right.with_extension("in")).expect("the input is there");
+    let right = fs::read(right).expect("the answer can be read");
+    let answer = Command::new(stand_in()).arg(kind).stdin(input).output();
+    let answer = answer.expect("the stand-in starts").stdout;
+    assert!(!answer.is_empty() && answer.ends_with(&right), "{kind}");
 }
 
 #[test]
@@ -75,6 +82,21 @@ fn wrong_answers() {
         for fault in ["changed", "short", "long", "silent", "failed"] {
             finds(kind, fault);
         }
+    }
+}
+
+#[test]
+fn wrong_answers_of_lent_records() {
+    for fault in [
+        "stored_on_refusal",
+        "deadline_on_refusal",
+        "emptied_on_refusal",
+        "length_on_refusal",
+        "swapped",
+        "old_record",
+        "past_listing",
+    ] {
+        finds("lent_records", fault);
     }
 }
 
@@ -100,7 +122,7 @@ fn what_is_not_asked_is_said() {
     let plan = format!("{} plan", stand_in().display());
     let words = ["--plan", &plan, "--seconds", "0"];
     let said = text(&run(&folder("not-asked"), &words));
-    for kind in ["host", "calls", "spoilt_records"] {
+    for kind in ["host", "calls", "lent_records"] {
         assert!(said.contains(&format!("{kind}: not asked")), "{said}");
     }
 }

@@ -1,8 +1,9 @@
-//! The host's two calls, on tables handed as bytes.
+//! The host's calls on tables handed as bytes.
 
 use crate::limits::TASKS;
 use crate::listing;
 use crate::plan::{self, check_cores};
+use crate::record::Record;
 use crate::refusal::{self, Refusal};
 
 /// Bytes of one task: cost then period, least byte first.
@@ -23,6 +24,13 @@ pub fn listing_bytes(cores: u32, table: &[u8], buffer: &mut [u8]) -> i64 {
         Ok(length) => length as i64,
         Err(no) => -i64::from(no),
     }
+}
+
+/// The record of a new plan, or a refusal.
+pub fn start_bytes(cores: u32, table: &[u8]) -> Result<Record, u32> {
+    numbers(cores, table)
+        .and_then(|table| Record::fresh(cores, &table))
+        .map_err(|refusal| refusal.no)
 }
 
 /// Planning's refusals, then 14.

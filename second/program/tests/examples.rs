@@ -1,7 +1,7 @@
 //! The table of examples E1 to E12.
 #![forbid(unsafe_code)]
 
-use second::host::{admit_bytes, listing_bytes};
+use second::host::{admit_bytes, listing_bytes, start_bytes};
 use second::limits::CORES;
 use second::listing::{list_into, listing};
 use second::plan::{admit, late, plan};
@@ -42,6 +42,7 @@ fn refused(cores: u32, table: &[u32], no: u32, task: usize) {
     assert_eq!(plan(cores, table), Err(refusal));
     assert_eq!(Record::fresh(cores, table), Err(refusal));
     assert_eq!(admit_bytes(cores, &bytes(table)), no);
+    assert_eq!(start_bytes(cores, &bytes(table)), Err(no));
     let mut buffer = [7; 100];
     let answer = listing_bytes(cores, &bytes(table), &mut buffer);
     assert_eq!(answer, -i64::from(no));
@@ -117,6 +118,7 @@ fn table_sizes() {
 #[test]
 fn listings_in_buffers() {
     let record = Record::fresh(4, &LIST).unwrap();
+    assert_eq!(start_bytes(4, &bytes(&LIST)).as_ref(), Ok(&record));
     assert_eq!(listing(&record).unwrap(), LISTING.as_bytes());
     let length = LISTING.len();
     let mut buffer = vec![7; length + 2];

@@ -3,7 +3,7 @@
 
 mod host;
 mod input;
-mod spoilt_records;
+mod lent_records;
 
 use std::io::{self, Read, Write};
 use std::process::ExitCode;
@@ -13,14 +13,14 @@ fn main() -> ExitCode {
     let mut input = Vec::new();
     let read = io::stdin().lock().read_to_end(&mut input);
     read.expect("the input can be read");
+    let fault = words.get(1).map_or("", String::as_str);
     let mut answer = match words[0].as_str() {
         "plan" => second::program::program(&input),
         "calls" => second::player::calls(&input),
         "host" => host::answers(&input),
-        "spoilt_records" => spoilt_records::answers(&input),
+        "lent_records" => lent_records::answers(&input, fault),
         _ => return ExitCode::from(2),
     };
-    let fault = words.get(1).map_or("", String::as_str);
     spoil(&mut answer, fault);
     let written = io::stdout().lock().write_all(&answer);
     written.expect("the output can be written");

@@ -1,17 +1,15 @@
 //! How long a buffer the host lends.
 
 use crate::random::Random;
-use second::host::listing_bytes;
 
 /// Enough for any listing.
-const ENOUGH: usize = 15_960;
+pub const ENOUGH: usize = 15_960;
 /// Longer than any listing.
 const MOST: u64 = 17_000;
 
-/// None, one byte, around the listing's length, enough for any, more.
-pub fn length(random: &mut Random, cores: u32, table: &[u8]) -> usize {
-    let listing = listing_bytes(cores, table, &mut [0; ENOUGH]);
-    let listing = u64::try_from(listing).unwrap_or(0);
+/// None, one byte, around a listing's length, enough for any, more.
+pub fn length(random: &mut Random, listing: usize) -> usize {
+    let listing = listing as u64;
     let length = match random.below(16) {
         0 => 0,
         1 => 1,

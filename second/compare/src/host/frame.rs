@@ -1,9 +1,7 @@
 //! A frame as host.c reads it, and the frame that it should answer.
 
+use crate::pattern::{filled, BEFORE};
 use second::host::{admit_bytes, listing_bytes};
-
-/// Bytes in front of table and buffer that come back too.
-const BEFORE: usize = 64;
 
 pub struct Frame {
     pub cores: u32,
@@ -39,13 +37,13 @@ impl Frame {
 
     /// Both answers, then the table and the buffer with the bytes in front of each.
     pub fn answer(&self) -> Answer {
-        let mut buffer = self.filled(BEFORE + self.room);
+        let mut buffer = filled(self.pattern, BEFORE + self.room);
         let admitted = admit_bytes(self.cores, &self.table);
         let listed = listing_bytes(self.cores, &self.table, &mut buffer[BEFORE..]);
         let parts = [
             &admitted.to_le_bytes()[..],
             &listed.to_le_bytes(),
-            &self.filled(BEFORE),
+            &filled(self.pattern, BEFORE),
             &self.table,
             &buffer,
         ];
@@ -54,13 +52,6 @@ impl Frame {
             listed,
             bytes: parts.concat(),
         }
-    }
-
-    /// The bytes that lent memory holds before the calls.
-    fn filled(&self, length: usize) -> Vec<u8> {
-        (0..length)
-            .map(|place| self.pattern.wrapping_add(place as u8))
-            .collect()
     }
 }
 

@@ -1,12 +1,13 @@
-//! Byte tables and buffers for the host's two calls.
+//! Byte tables and buffers for the host's two calls that ask of a table.
 
-mod buffer;
-mod bytes;
+pub mod buffer;
+pub mod bytes;
 mod frame;
 
 use crate::batch::{Batch, Case};
 use crate::random::Random;
 use frame::Frame;
+use second::host::listing_bytes;
 
 /// Frames of a process.
 const FRAMES: usize = 200;
@@ -16,12 +17,14 @@ pub fn batch(random: &mut Random) -> Batch {
     Batch {
         head: Vec::new(),
         cases: (0..FRAMES).map(|_| case(random)).collect(),
+        in_turn: false,
     }
 }
 
 fn case(random: &mut Random) -> Case {
     let (cores, table) = bytes::table(random);
-    let room = buffer::length(random, cores, &table);
+    let listing = listing_bytes(cores, &table, &mut [0; buffer::ENOUGH]);
+    let room = buffer::length(random, usize::try_from(listing).unwrap_or(0));
     let frame = Frame {
         cores,
         table,

@@ -1,51 +1,96 @@
-//! What each number of a record is, and how wide the product keeps it.
+//! Where each number of a record stands in its bytes, by the header, and how wide it is.
 
-use super::numbers::{BOX, TASK};
-use std::ops::Range;
-
-/// The numbers of a task that are alike, by their places in it.
-pub const FIELDS: [Range<usize>; 10] = [
-    COST, PERIOD, WEIGHT, SHARES, COUNTS, PLACE, LAST, HAD, RUNS, UNFINISHED,
-];
-
-const COST: Range<usize> = 0..1;
-const PERIOD: Range<usize> = 1..2;
-const WEIGHT: Range<usize> = 2..3;
-pub const SHARES: Range<usize> = 3..19;
-pub const COUNTS: Range<usize> = 19..35;
-const PLACE: Range<usize> = 35..36;
-const LAST: Range<usize> = 36..37;
-const HAD: Range<usize> = 37..38;
-const RUNS: Range<usize> = 38..54;
-const UNFINISHED: Range<usize> = 54..55;
-
-/// The places of the core count and the common period in the box.
-const CORES: usize = 0;
-const COMMON: usize = 2;
-
-/// What a place of the record, counted from 0, takes of a value: as many low bits as the product keeps there.
-pub fn held(place: usize, value: u64) -> u64 {
-    value & (u64::MAX >> (u64::BITS - bits(place)))
+/// Numbers that are alike, one after the other.
+#[derive(Clone, Copy, Debug)]
+pub struct Field {
+    /// The first byte of the first.
+    pub place: usize,
+    /// The bytes of each.
+    pub width: usize,
+    /// How many there are.
+    pub length: usize,
 }
 
-/// The bits that the product keeps of the number in a place.
-fn bits(place: usize) -> u32 {
-    let Some(place) = place.checked_sub(BOX) else {
-        return if [CORES, COMMON].contains(&place) {
-            32
-        } else {
-            64
-        };
-    };
-    let place = place % TASK;
-    let of = |fields: &[Range<usize>]| fields.iter().any(|field| field.contains(&place));
-    if of(&[COST, PERIOD, WEIGHT, SHARES, COUNTS, PLACE]) {
-        32
-    } else if of(&[HAD, UNFINISHED]) {
-        16
-    } else if RUNS.step_by(2).any(|core| core == place) {
-        8 // A run's core stands before its deadline.
-    } else {
-        64
+/// The core count, the common period, the number of tasks and the clock.
+pub const BOX: [Field; 4] = [
+    field(0, 4, 1),
+    field(4, 4, 1),
+    field(8, 8, 1),
+    field(CLOCK, 8, 1),
+];
+
+/// Where the first task's line stands, and the bytes of a line.
+const LINES: usize = 16;
+const LINE: usize = 76;
+/// Where the clock stands.
+const CLOCK: usize = 4_880;
+/// Where the first task's state stands, which says what it is at, and the bytes of a state.
+const STATES: usize = 4_888;
+const STATE: usize = 152;
+
+/// Cost, period, weight and shares, by their places in a line.
+const OF_LINE: [Field; 4] = [
+    field(0, 4, 1),
+    field(4, 4, 1),
+    field(8, 4, 1),
+    field(12, 4, 16),
+];
+
+/// Last release, deadlines, turn counts, place, cores, unfinished runs and the flag, by their places in a state.
+const OF_STATE: [Field; 7] = [
+    field(0, 8, 1),
+    field(8, 8, 8),
+    field(72, 4, 16),
+    field(136, 4, 1),
+    field(140, 1, 8),
+    field(148, 2, 1),
+    field(150, 2, 1),
+];
+
+const fn field(place: usize, width: usize, length: usize) -> Field {
+    Field {
+        place,
+        width,
+        length,
+    }
+}
+
+/// The numbers of a task, counted from 0: those of its line, then those of its state.
+pub fn of_task(task: usize) -> Vec<Field> {
+    let line = OF_LINE.map(|field| field.after(LINES + task * LINE));
+    let state = OF_STATE.map(|field| field.after(STATES + task * STATE));
+    [&line[..], &state].concat()
+}
+
+/// A task's shares.
+pub fn shares(task: usize) -> Field {
+    OF_LINE[3].after(LINES + task * LINE)
+}
+
+/// A task's turn counts.
+pub fn turn_counts(task: usize) -> Field {
+    OF_STATE[2].after(STATES + task * STATE)
+}
+
+/// The task, from 0, that a byte of the record belongs to, or 0.
+pub fn task_of(place: usize) -> usize {
+    match place {
+        STATES.. => (place - STATES) / STATE,
+        LINES..CLOCK => (place - LINES) / LINE,
+        _ => 0,
+    }
+}
+
+impl Field {
+    fn after(self, start: usize) -> Self {
+        Field {
+            place: self.place + start,
+            ..self
+        }
+    }
+
+    /// Where one of the numbers stands.
+    pub fn place_of(&self, number: usize) -> usize {
+        self.place + number * self.width
     }
 }

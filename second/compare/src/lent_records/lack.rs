@@ -1,7 +1,8 @@
 //! A row of shares or turn counts that lacks a part, so that one number more, on any core, brings its sum back.
 
-use super::field::{COUNTS, SHARES};
-use super::numbers::{BOX, TASK};
+use super::field;
+use super::held::Held;
+use super::layout;
 use super::spoil::Spoilt;
 use crate::random::Random;
 use second::limits::CORES;
@@ -9,8 +10,9 @@ use second::record::Record;
 
 #[derive(Clone, Copy)]
 pub struct Lack {
-    /// Where the row starts in the record.
-    row: usize,
+    /// The task, from 0, and whether its turn counts lack the part, or else its shares.
+    task: usize,
+    counts: bool,
     part: u64,
 }
 
@@ -19,27 +21,39 @@ impl Lack {
     pub fn take(random: &mut Random, record: &mut Record) -> Self {
         let task = random.below(record.count) as usize;
         let counts = record.states[task].place > 0 && random.one_in(3);
-        let field = if counts { COUNTS } else { SHARES };
-        let row = BOX + task * TASK + field.start;
-        let mut all = record.numbers();
-        let given: Vec<usize> = (row..row + CORES).filter(|&at| *all[at] > 0).collect();
-        if given.is_empty() {
-            return Lack { row, part: 1 };
-        }
-        let from = random.pick(&given);
-        let any = random.between(1, *all[from]);
-        let part = random.pick(&[1, any, *all[from]]);
-        *all[from] -= part;
-        Lack { row, part }
+        let row = match counts {
+            true => &mut record.states[task].counts,
+            false => &mut record.tasks[task].shares,
+        };
+        let part = take(random, row);
+        Lack { task, counts, part }
     }
 
     /// The part given to any core.
-    pub fn repaired(&self, random: &mut Random, record: &Record) -> Spoilt {
-        let place = self.row + random.place(CORES);
-        let now = *record.clone().numbers()[place];
+    pub fn repaired(&self, random: &mut Random, held: &Held) -> Spoilt {
+        let row = match self.counts {
+            true => field::turn_counts(self.task),
+            false => field::shares(self.task),
+        };
+        let (place, width) = (row.place_of(random.place(CORES)), row.width);
+        let now = layout::read(&held.bytes[place..place + width]);
         Spoilt {
-            index: place + 1,
+            place,
+            width,
             value: now + self.part,
         }
     }
+}
+
+/// Takes from a number that is not 0, and answers how much.
+fn take(random: &mut Random, row: &mut [u64; CORES]) -> u64 {
+    let given: Vec<usize> = (0..CORES).filter(|&core| row[core] > 0).collect();
+    if given.is_empty() {
+        return 1;
+    }
+    let from = random.pick(&given);
+    let any = random.between(1, row[from]);
+    let part = random.pick(&[1, any, row[from]]);
+    row[from] -= part;
+    part
 }

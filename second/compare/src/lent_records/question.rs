@@ -1,80 +1,81 @@
-//! A question of `spoilt_records`: a number spoilt, then a call or none.
+//! A question of lent_records.c: a record spoilt or not, then a call.
 
-use super::checksum::checksum;
+use super::asked::Asked;
+use super::held::Held;
+use super::lent::Lent;
 use super::spoil::Spoilt;
-use super::values;
-use crate::calls::call::{Answer, Call, NAMES};
-use crate::calls::due::due;
+use crate::batch::Case;
+use crate::calls::call::Name;
 use crate::random::Random;
-use second::choice::Choice;
-use second::record::Record;
 
 pub struct Question {
-    spoilt: Spoilt,
-    /// The call's number in the protocol: 0 for none, else its place in the names, from 1.
-    name: usize,
-    number: u64,
-    time: u64,
+    pub spoilt: Spoilt,
+    pub asked: Asked,
+    /// Whether the next question is of the record after this one.
+    pub kept: bool,
+    /// The first byte that lent memory is filled with.
+    pattern: u8,
+    /// Whether a pointer is null where its length is 0.
+    null: bool,
 }
 
 impl Question {
-    /// A call of any kind, or none, on the record with that number spoilt.
-    pub fn new(random: &mut Random, record: &Record, spoilt: Spoilt) -> Self {
-        let number = values::number(random, record, spoilt.task());
-        let known = (1..=record.count).contains(&number);
-        let due = due(record, if known { number } else { 1 });
+    pub fn new(random: &mut Random, spoilt: Spoilt, asked: Asked, kept: bool) -> Self {
         Question {
             spoilt,
-            name: random.place(NAMES.len() + 1),
-            number,
-            time: values::time(random, record, due, spoilt.value),
+            asked,
+            kept,
+            pattern: random.number() as u8,
+            null: random.one_in(2),
         }
     }
 
-    /// Call and index as 32 bits, value, number and time as 64.
-    pub fn input(&self) -> Vec<u8> {
-        let words = [self.name as u32, self.spoilt.index as u32];
-        let numbers = [self.spoilt.value, self.number, self.time];
+    /// The question and its answer, and the record after it.
+    pub fn case(&self, held: &Held) -> (Case, Vec<u8>) {
+        let mut record = held.bytes.clone();
+        self.spoilt.put(&mut record);
+        let mut lent = Lent::new(record, &self.asked, self.pattern);
+        let refused = lent.ask(&self.asked).err().unwrap_or(0);
+        let case = Case {
+            input: self.input(),
+            answer: [&refused.to_le_bytes()[..], &lent.bytes()].concat(),
+            met: vec![refused],
+        };
+        (case, lent.record)
+    }
+
+    /// Seven numbers of 32 bits, three of 64, then the table.
+    fn input(&self) -> Vec<u8> {
+        let (call, length, number, time, table) = self.call();
+        let words = [
+            call,
+            u32::from(self.kept),
+            self.spoilt.place as u32,
+            self.spoilt.width as u32,
+            length as u32,
+            u32::from(self.pattern),
+            u32::from(self.null),
+        ];
+        let numbers = [self.spoilt.value, number, time];
         let mut bytes: Vec<u8> = words.iter().flat_map(|n| n.to_le_bytes()).collect();
         bytes.extend(numbers.iter().flat_map(|n| n.to_le_bytes()));
+        bytes.extend(table);
         bytes
     }
 
-    /// The answer's line and its refusal, or 0.
-    pub fn answer(&self, record: &Record) -> (String, u32) {
-        let mut record = self.spoilt.of(record);
-        let sound = u32::from(record.sound());
-        let (refusal, [a, b, c]) = match self.call(&mut record) {
-            Ok(answer) => (0, answer),
-            Err(refusal) => (refusal, [0; 3]),
-        };
-        let sum = checksum(record.numbers().into_iter().map(|number| &*number));
-        let line = format!("{sound} {refusal} {a} {b} {c} {sum}\n");
-        (line, refusal)
-    }
-
-    /// Makes the call, if there is one, and answers its three numbers.
-    fn call(&self, record: &mut Record) -> Result<[i64; 3], u32> {
-        let Some(place) = self.name.checked_sub(1) else {
-            return Ok([0; 3]);
-        };
-        let (name, number, time) = (NAMES[place], self.number, self.time);
-        let call = Call { name, number, time };
-        call.make(record).map(|answer| three(&answer))
-    }
-}
-
-/// The three numbers of an answer.
-fn three(answer: &Answer) -> [i64; 3] {
-    match *answer {
-        Answer::Released { core, deadline } => [core as i64, deadline as i64, 0],
-        Answer::Finished { late } => [late, 0, 0],
-        Answer::Looked(Choice::Idle) => [0; 3],
-        Answer::Looked(Choice::Fixed { task, deadline }) => [1, task as i64, deadline as i64],
-        Answer::Looked(Choice::Mover {
-            task,
-            deadline,
-            upper,
-        }) => [if upper { 2 } else { 3 }, task as i64, deadline as i64],
+    /// The call, the length of its table or buffer, its number and time, and its table.
+    fn call(&self) -> (u32, usize, u64, u64, &[u8]) {
+        match &self.asked {
+            Asked::List { room } => (0, *room, 0, 0, &[]),
+            Asked::Call(call) => {
+                let name = match call.name {
+                    Name::Release => 1,
+                    Name::Finish => 2,
+                    Name::Look => 3,
+                };
+                (name, 0, call.number, call.time, &[])
+            }
+            Asked::Start { cores, table } => (4, table.len(), u64::from(*cores), 0, table),
+        }
     }
 }

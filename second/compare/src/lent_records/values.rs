@@ -31,6 +31,13 @@ pub fn spoilt(random: &mut Random, record: &Record, now: u64) -> u64 {
     }
 }
 
+/// 0, 1, the highest, one more or less, one bit flipped, any.
+pub fn byte(random: &mut Random, now: u8) -> u8 {
+    let (bit, any) = (1 << random.below(8), random.number() as u8);
+    let (more, less) = (now.wrapping_add(1), now.wrapping_sub(1));
+    random.pick(&[0, 1, u8::MAX, more, less, now ^ bit, any])
+}
+
 /// A limit of the rules or of this record, or the number beside it.
 fn beside(random: &mut Random, record: &Record) -> u64 {
     let task = &record.tasks[random.below(record.count) as usize];

@@ -1,0 +1,65 @@
+//! When a run without a difference holds.
+#![forbid(unsafe_code)]
+
+use compare::command::Command;
+use compare::kinds::KINDS;
+use compare::options::Options;
+use compare::report::report;
+use compare::run::Outcome;
+
+fn options(seconds: u64) -> Options {
+    Options {
+        commands: [const { None }; KINDS.len()].map(|_: Option<Command>| Command::read("x")),
+        seed: 1,
+        seconds,
+    }
+}
+
+/// A run in which every kind has met every refusal.
+fn met() -> Outcome {
+    let mut outcome = Outcome::default();
+    for tally in &mut outcome.tallies {
+        tally.met.fill(1);
+    }
+    outcome
+}
+
+#[test]
+fn all_met() {
+    assert!(report(&options(20), &met()));
+}
+
+#[test]
+fn a_refusal_that_no_kind_meets() {
+    for no in 1..=16 {
+        let mut outcome = met();
+        for tally in &mut outcome.tallies {
+            tally.met[no] = 0;
+        }
+        assert!(!report(&options(20), &outcome), "{no}");
+        assert!(report(&options(19), &outcome), "{no}");
+    }
+}
+
+#[test]
+fn a_refusal_that_one_kind_does_not_meet() {
+    for (kind, &holds) in [
+        ("plan", &true),
+        ("host", &false),
+        ("calls", &true),
+        ("lent_records", &false),
+    ] {
+        let place = KINDS.iter().position(|known| known.name == kind);
+        let place = place.expect("there is such a kind");
+        let mut outcome = met();
+        outcome.tallies[place].met[5] = 0;
+        assert_eq!(report(&options(20), &outcome), holds, "{kind}");
+    }
+}
+
+#[test]
+fn a_difference() {
+    let mut outcome = met();
+    outcome.differences = 1;
+    assert!(!report(&options(1), &outcome));
+}
