@@ -1,13 +1,14 @@
 //! What the questions of lent records must meet, read off the bytes that lent_records.c is given and should answer.
 #![forbid(unsafe_code)]
 
+mod common;
+
+use common::{number, number_at};
 use compare::batch::{Batch, Case};
-use compare::lent_records::{self, field, layout};
+use compare::lent_records::{self, layout::RECORD};
 use compare::random::Random;
-use second::record::Record;
 use std::collections::{BTreeMap, BTreeSet};
 
-const RECORD: usize = 14_616;
 /// A frame without its table.
 const FRAME: usize = 52;
 /// Where an answer has the record, after the refusal and the bytes in front.
@@ -24,12 +25,6 @@ const ANSWERS: [&[u64]; 5] = [
     &[0, 8, 12, 13, 15],
     &[0, 1, 2, 3, 4, 5, 6],
 ];
-
-/// A number of so many bytes at a place.
-fn number(bytes: &[u8], place: usize, length: usize) -> u64 {
-    let bytes = bytes[place..place + length].iter().rev();
-    bytes.fold(0, |number, &byte| number << 8 | u64::from(byte))
-}
 
 fn call(case: &Case) -> usize {
     number(&case.input, 0, 4) as usize
@@ -71,77 +66,6 @@ fn batches() -> impl Iterator<Item = Batch> {
 
 fn cases() -> impl Iterator<Item = Case> {
     batches().flat_map(|batch| batch.cases)
-}
-
-/// The name and width of the number that a byte belongs to, and its place in it.
-fn number_at(place: usize) -> (&'static str, usize, usize) {
-    let (name, width, start) = match place {
-        0..4 => ("cores", 4, 0),
-        4..8 => ("common", 4, 4),
-        8..16 => ("count", 8, 8),
-        16..4_880 => match (place - 16) % 76 {
-            0..4 => ("cost", 4, 16),
-            4..8 => ("period", 4, 16),
-            8..12 => ("weight", 4, 16),
-            _ => ("share", 4, 16),
-        },
-        4_880..4_888 => ("clock", 8, 4_880),
-        _ => match (place - 4_888) % 152 {
-            0..8 => ("last", 8, 4_888),
-            8..72 => ("deadline", 8, 4_888),
-            72..136 => ("turns", 4, 4_888),
-            136..140 => ("place", 4, 4_888),
-            140..148 => ("core", 1, 4_888),
-            148..150 => ("unfinished", 2, 4_888),
-            _ => ("had", 2, 4_888),
-        },
-    };
-    (name, width, (place - start) % width)
-}
-
-#[test]
-fn places_of_numbers() {
-    let table = [5, 6, 4, 6, 2, 3, 2, 3, 2, 3, 1, 2];
-    let mut record = Record::fresh(4, &table).expect("the table is taken");
-    record.release(6, 258).expect("it is taken");
-    record.release(6, 260).expect("it is taken");
-    let bytes = layout::bytes(&record);
-    let at = |place, width| number(&bytes, place, width);
-    assert_eq!(bytes.len(), RECORD);
-    assert_eq!([at(0, 4), at(4, 4), at(8, 8), at(4_880, 8)], [4, 6, 6, 260]);
-    let line = 16 + 5 * 76;
-    assert_eq!(
-        [line, line + 4, line + 8].map(|place| at(place, 4)),
-        [1, 2, 3]
-    );
-    assert_eq!([line + 20, line + 24].map(|place| at(place, 4)), [1, 2]);
-    let state = 4_888 + 5 * 152;
-    assert_eq!(
-        [0, 8, 16].map(|place| at(state + place, 8)),
-        [260, 260, 262]
-    );
-    assert_eq!([80, 84, 136].map(|place| at(state + place, 4)), [1, 1, 2]);
-    assert_eq!([140, 141].map(|place| at(state + place, 1)), [4, 3]);
-    assert_eq!([148, 150].map(|place| at(state + place, 2)), [2, 1]);
-    assert!(layout::record(&bytes) == record);
-}
-
-/// The fields name every byte of a record once, and as the header does.
-#[test]
-fn fields_of_a_record() {
-    let mut named = [0; RECORD];
-    let tasks = (0..64).flat_map(field::of_task);
-    for field in field::BOX.into_iter().chain(tasks) {
-        for index in 0..field.length {
-            let place = field.place_of(index);
-            let (_, width, within) = number_at(place);
-            assert_eq!((width, within), (field.width, 0), "{field:?}");
-            named[place..place + width]
-                .iter_mut()
-                .for_each(|byte| *byte += 1);
-        }
-    }
-    assert!(named.iter().all(|&byte| byte == 1));
 }
 
 /// Numbers beside a limit and at the edges of the widths, each of which must be asked for.
