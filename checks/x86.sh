@@ -6,7 +6,7 @@ if [ "$(uname -m)" = x86_64 ]; then
 else
     tools=$kit/on/$(uname -m)/toolchain
     # A processor without erms: the C library then copies by moves, which the emulator makes ten times as fast as that instruction.
-    prefix=x86_64-linux-gnu- link=(-static) emulator=("$tools/bin/qemu-x86_64" -cpu max,-erms)
+    prefix=x86_64-linux-gnu- link=(-static) emulator=("$tools/bin/qemu-x86_64" -cpu 'max,-erms')
     loader=("${emulator[@]}" "$tools/lib/ld-linux-x86-64.so.2" --library-path "$tools/lib")
     [ -x "${emulator[0]}" ] || { echo "the kit has no emulator for this machine, $(uname -m)" >&2; exit 2; }
 fi
