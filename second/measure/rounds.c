@@ -1,10 +1,10 @@
 /*
- * Rounds of one kind through the host's calls, for the benchmark: reads a line `KIND ROUNDS`, a table's text, a line
- * `calls` and a call to each line, and writes the processor's time in microseconds before and after so many rounds,
- * and a sum of the answers.
+ * Rounds of one kind through the host's calls, for the benchmark: reads a line `KIND LAPS ROUNDS`, a table's text, a
+ * line `calls` and a call to each line, makes so many laps of so many rounds, and writes the nanoseconds of the
+ * quickest lap and the sum of all answers.
  *
- * Kinds: p plans, a admits, l lists a record, s tests a record alone (a look at core 0, which is refused after the
- * test), c makes the calls on a fresh record.
+ * Kinds: e is an empty round, p plans, a admits, l lists the record, s tests it alone (a look at core 0, which is
+ * refused straight after the test), c makes the calls on a fresh record. In all others the record has had the calls.
  */
 #define _POSIX_C_SOURCE 199309L
 #include <inttypes.h>
@@ -23,11 +23,19 @@ struct call {
     uint64_t time;
 };
 
+typedef uint64_t one_round(void);
+
+struct kind {
+    char name;
+    one_round *round;
+};
+
 static uint8_t table[YAGOMILA_TASKS_MAX * YAGOMILA_TASK_BYTES];
 static size_t table_len;
 static uint32_t cores;
 static struct call calls[CALLS_MAX];
 static size_t calls_len;
+static yagomila_record first, held;
 static uint8_t buf[YAGOMILA_LISTING_MAX];
 
 static void want(int holds, const char *what)
@@ -68,10 +76,11 @@ static void read_calls(void)
         call.kind = word[0];
         calls[calls_len++] = call;
     }
+    want(feof(stdin), "a line that is no call");
 }
 
 /* One call; every call of the benchmark is accepted. */
-static uint64_t make(yagomila_record *held, const struct call *call)
+static uint64_t make(const struct call *call)
 {
     size_t core = 0;
     uint64_t deadline = 0;
@@ -79,72 +88,108 @@ static uint64_t make(yagomila_record *held, const struct call *call)
     yagomila_choice choice = {0, 0, 0};
     switch (call->kind) {
     case 'r':
-        want(yagomila_release(held, call->number, call->time, &core, &deadline) == 0, "a refused release");
-        return deadline;
+        want(yagomila_release(&held, call->number, call->time, &core, &deadline) == 0, "a refused release");
+        return core + deadline;
     case 'f':
-        want(yagomila_finish(held, call->number, call->time, &late) == 0, "a refused finish");
+        want(yagomila_finish(&held, call->number, call->time, &late) == 0, "a refused finish");
         return (uint64_t)late;
     default:
-        want(yagomila_look(held, call->number, call->time, &choice) == 0, "a refused look");
-        return choice.task;
+        want(yagomila_look(&held, call->number, call->time, &choice) == 0, "a refused look");
+        return choice.task + choice.deadline;
     }
 }
 
-static uint64_t make_all(yagomila_record *held)
+static uint64_t make_all(void)
 {
     uint64_t sum = 0;
     size_t i;
     for (i = 0; i < calls_len; i++)
-        sum += make(held, &calls[i]);
+        sum += make(&calls[i]);
     return sum;
 }
 
-/* One round of a kind; `held` has had the calls where they are not what is timed. */
-static uint64_t round_of(char kind, const yagomila_record *first, yagomila_record *held)
+static uint64_t empty_round(void)
 {
-    int64_t len = 0;
-    yagomila_choice choice = {0, 0, 0};
-    switch (kind) {
-    case 'p':
-        want(yagomila_start(held, cores, table, table_len) == 0, "a refused table");
-        return held->plan.common_period;
-    case 'a':
-        return yagomila_admit(cores, table, table_len);
-    case 'l':
-        want(yagomila_list(held, buf, sizeof buf, &len) == 0, "a refused listing");
-        return (uint64_t)len;
-    case 's':
-        want(yagomila_look(held, 0, held->clock, &choice) == YAGOMILA_REFUSED_NO_CORE, "a look at core 0");
-        return choice.task;
-    default:
-        *held = *first;
-        return make_all(held);
-    }
+    return 0;
 }
 
-static int64_t microseconds(void)
+static uint64_t plan_round(void)
+{
+    want(yagomila_start(&held, cores, table, table_len) == 0, "a refused table");
+    return held.plan.common_period;
+}
+
+static uint64_t admit_round(void)
+{
+    return yagomila_admit(cores, table, table_len);
+}
+
+static uint64_t list_round(void)
+{
+    int64_t len = 0;
+    want(yagomila_list(&held, buf, sizeof buf, &len) == 0, "a refused listing");
+    return (uint64_t)len;
+}
+
+static uint64_t sound_round(void)
+{
+    yagomila_choice choice = {0, 0, 0};
+    return yagomila_look(&held, 0, held.clock, &choice);
+}
+
+static uint64_t calls_round(void)
+{
+    held = first;
+    return make_all();
+}
+
+static const struct kind kinds[] = {
+    {'e', empty_round}, {'p', plan_round},  {'a', admit_round},
+    {'l', list_round},  {'s', sound_round}, {'c', calls_round},
+};
+
+static one_round *round_of(char name)
+{
+    size_t i;
+    for (i = 0; i < sizeof kinds / sizeof *kinds; i++)
+        if (kinds[i].name == name)
+            return kinds[i].round;
+    want(0, "no such kind");
+    return NULL;
+}
+
+/* By the same clock as the second program's rounds. */
+static int64_t nanoseconds(void)
 {
     struct timespec now;
-    clock_gettime(CLOCK_PROCESS_CPUTIME_ID, &now);
-    return (int64_t)now.tv_sec * 1000000 + now.tv_nsec / 1000;
+    clock_gettime(CLOCK_MONOTONIC, &now);
+    return (int64_t)now.tv_sec * 1000000000 + now.tv_nsec;
+}
+
+/* The nanoseconds of so many rounds; their answers go into the sum. */
+static int64_t lap(one_round *round, uint64_t rounds, uint64_t *sum)
+{
+    int64_t before = nanoseconds();
+    for (; rounds > 0; rounds--)
+        *sum += round();
+    return nanoseconds() - before;
 }
 
 int main(void)
 {
-    static yagomila_record first, held;
-    char kind;
-    uint64_t rounds, r, sum = 0;
-    int64_t before;
-    want(scanf("%c %" SCNu64, &kind, &rounds) == 2, "no kind and rounds");
+    char name;
+    uint64_t laps, rounds, sum = 0;
+    int64_t took, least = INT64_MAX;
+    want(scanf("%c %" SCNu64 " %" SCNu64, &name, &laps, &rounds) == 3, "no kind, laps and rounds");
     read_table();
     read_calls();
     want(yagomila_start(&first, cores, table, table_len) == 0, "a refused table");
     held = first;
-    if (kind != 'c')
-        make_all(&held);
-    before = microseconds();
-    for (r = 0; r < rounds; r++)
-        sum += round_of(kind, &first, &held);
-    printf("%" PRId64 " %" PRId64 " %" PRIu64 "\n", before, microseconds(), sum);
+    make_all();
+    for (; laps > 0; laps--) {
+        took = lap(round_of(name), rounds, &sum);
+        least = took < least ? took : least;
+    }
+    printf("%" PRId64 " %" PRIu64 "\n", least, sum);
     return 0;
 }

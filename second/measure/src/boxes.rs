@@ -1,4 +1,4 @@
-//! The boxes that are measured, as tables and as inputs of calls.
+//! The boxes that are measured, and calls on them.
 
 /// A box: cores, and cost and period of each task.
 #[derive(Clone)]
@@ -67,6 +67,11 @@ impl Bench {
         self.table.len() as u64 / 2
     }
 
+    /// The table as a host hands it.
+    pub fn bytes(&self) -> Vec<u8> {
+        self.table.iter().flat_map(|n| n.to_le_bytes()).collect()
+    }
+
     /// So many releases of each task.
     pub fn releases(&self, each: u64) -> Vec<Call> {
         (0..each)
@@ -90,24 +95,6 @@ impl Bench {
         let cores = u64::from(self.cores);
         calls.extend((0..number).map(|k| ('l', 1 + k % cores, COMMON + k)));
         calls
-    }
-
-    /// The input of `timed_rounds`: a kind, rounds, the table and the calls.
-    pub fn input(&self, kind: char, rounds: u64, calls: &[Call]) -> String {
-        let mut text = format!("{kind} {rounds}\n{}\n", self.cores);
-        for task in self.table.chunks(2) {
-            text += &format!("{} {}\n", task[0], task[1]);
-        }
-        text += "calls\n";
-        for (call, number, time) in calls {
-            let word = match call {
-                'r' => "release",
-                'f' => "finish",
-                _ => "look",
-            };
-            text += &format!("{word} {number} {time}\n");
-        }
-        text
     }
 }
 
@@ -141,18 +128,5 @@ mod tests {
                 assert!(taken, "{call} {number} {time}");
             }
         }
-    }
-
-    #[test]
-    fn input_has_the_table_and_the_calls() {
-        let bench = Bench {
-            cores: 1,
-            table: vec![1, 2],
-        };
-        let input = bench.input('c', 3, &[('r', 1, 0), ('f', 1, 1), ('l', 1, 2)]);
-        assert_eq!(
-            input,
-            "c 3\n1\n1 2\ncalls\nrelease 1 0\nfinish 1 1\nlook 1 2\n"
-        );
     }
 }

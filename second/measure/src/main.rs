@@ -1,53 +1,47 @@
-//! `measure COMMAND..`: times the product's `timed_rounds`, started by a command, against the second program, in one run.
+//! `measure COMMAND..`: times the product's rounds, which a command makes, against the second program's, in one run.
 #![forbid(unsafe_code)]
 
 mod boxes;
 mod ours;
+mod rounds;
 mod theirs;
 
-use boxes::{full, sized, Bench, Call};
+use boxes::{full, sized, Bench};
+use rounds::Rounds;
 
 /// How often each figure is taken. All are taken in turn, so that a busy minute of the machine spoils no figure whole, and the least is shown.
 const TIMES: usize = 15;
 
-/// A figure of a box: its name, its kind, its rounds, the calls, and calls whose time is taken off.
+/// A figure: its name, the rounds that are timed, those whose time is taken off, and how many operations that leaves to a round.
 struct Figure<'a> {
     name: String,
-    bench: &'a Bench,
-    kind: char,
-    rounds: u64,
-    calls: Vec<Call>,
-    less: Vec<Call>,
+    timed: Rounds<'a>,
+    less: Rounds<'a>,
+    operations: usize,
     times: Vec<[Time; 2]>,
 }
 
 /// Nanoseconds of a round, and of the round that is taken off it.
 struct Time(f64, f64);
 
-impl Figure<'_> {
-    /// Takes it once, of ours and of the second program.
-    fn take(&mut self, command: &[String]) {
-        let (bench, kind, rounds) = (self.bench, self.kind, self.rounds);
-        let ours = self.time(|calls| ours::round(command, bench, kind, rounds, calls));
-        let theirs = self.time(|calls| theirs::round(bench, kind, rounds, calls));
-        self.times.push([ours, theirs]);
-    }
+/// Nanoseconds of a round, of ours and of the second program.
+fn both(command: &[String], of: &Rounds) -> [f64; 2] {
+    let (ours, theirs) = (ours::time(command, of), theirs::time(of));
+    assert_eq!(ours.sum, theirs.sum, "answers of kind {}", of.kind);
+    [ours, theirs].map(|timed| timed.nanoseconds as f64 / of.rounds as f64)
+}
 
-    fn time(&self, round: impl Fn(&[Call]) -> f64) -> Time {
-        let less = if self.less.is_empty() {
-            0.0
-        } else {
-            round(&self.less)
-        };
-        Time(round(&self.calls), less)
+impl Figure<'_> {
+    /// Takes it once.
+    fn take(&mut self, command: &[String]) {
+        let (timed, less) = (both(command, &self.timed), both(command, &self.less));
+        self.times
+            .push([0, 1].map(|side| Time(timed[side], less[side])));
     }
 
     /// Nanoseconds of one operation.
     fn each(&self, time: &Time) -> f64 {
-        if self.kind != 'c' {
-            return time.0;
-        }
-        (time.0 - time.1) / (self.calls.len() - self.less.len()) as f64
+        (time.0 - time.1) / self.operations as f64
     }
 
     /// Of the least times of one side.
@@ -81,25 +75,31 @@ fn least_of(times: impl Iterator<Item = f64>) -> f64 {
     times.fold(f64::INFINITY, f64::min)
 }
 
-/// Every figure of a box, with a word after its name.
+/// Every figure of a box, with a word after its name: its operation alone, without the loop and the copy of a fresh record.
 fn figures<'a>(bench: &'a Bench, word: &str) -> Vec<Figure<'a>> {
-    let held = bench.releases(2);
-    [
-        ("plan", 'p', 2_000, held.clone(), Vec::new()),
-        ("admission", 'a', 2_000, held.clone(), Vec::new()),
-        ("listing", 'l', 2_000, held.clone(), Vec::new()),
-        ("soundness", 's', 2_000, held.clone(), Vec::new()),
-        ("release", 'c', 40, bench.releases(8), Vec::new()),
-        ("finish", 'c', 40, bench.finishes(8), bench.releases(8)),
-        ("look", 'c', 40, bench.looks(512), held),
-    ]
-    .into_iter()
-    .map(|(name, kind, rounds, calls, less)| Figure {
-        name: format!("{name}{word}"),
+    let of = |kind, rounds, calls| Rounds {
         bench,
         kind,
+        laps: 40,
         rounds,
         calls,
+    };
+    let one = |kind| [kind, 'e'].map(|kind| of(kind, 50, bench.releases(2)));
+    let calls = |calls, less| [calls, less].map(|calls| of('c', 1, calls));
+    [
+        ("plan", one('p')),
+        ("admission", one('a')),
+        ("listing", one('l')),
+        ("soundness", one('s')),
+        ("release", calls(bench.releases(8), Vec::new())),
+        ("finish", calls(bench.finishes(8), bench.releases(8))),
+        ("look", calls(bench.looks(512), bench.releases(2))),
+    ]
+    .into_iter()
+    .map(|(name, [timed, less])| Figure {
+        name: format!("{name}{word}"),
+        operations: (timed.calls.len() - less.calls.len()).max(1),
+        timed,
         less,
         times: Vec::new(),
     })

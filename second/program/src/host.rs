@@ -18,6 +18,18 @@ pub fn admit_bytes(cores: u32, table: &[u8]) -> u32 {
     }
 }
 
+/// Plans a table into a lent record: 0, or a refusal, which leaves the record as it was.
+pub fn start_bytes(record: &mut Record, cores: u32, table: &[u8]) -> u32 {
+    let answer = numbers(cores, table).and_then(|table| plan::plan(cores, &table));
+    match answer {
+        Ok(plan) => {
+            *record = Record::of(&plan);
+            0
+        }
+        Err(refusal) => refusal.no,
+    }
+}
+
 /// Writes the listing and answers its length, or the refusal number made negative.
 pub fn listing_bytes(cores: u32, table: &[u8], buffer: &mut [u8]) -> i64 {
     match list(cores, table, buffer) {

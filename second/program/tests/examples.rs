@@ -47,6 +47,9 @@ fn refused(cores: u32, table: &[u32], no: u32, task: usize) {
     let answer = listing_bytes(cores, &bytes(table), &mut buffer);
     assert_eq!(answer, -i64::from(no));
     assert_eq!(buffer, [7; 100]);
+    let mut record = Record::fresh(4, &LIST).unwrap();
+    assert_eq!(start_bytes(&mut record, cores, &bytes(table)), no);
+    assert_eq!(record, Record::fresh(4, &LIST).unwrap());
 }
 
 /// The cores of so many turns.
@@ -113,6 +116,16 @@ fn table_sizes() {
     refused(1, &[1, 1_000_001], 3, 1);
     assert_eq!(admit(16, &[1; 128]), Err(Refusal::plain(6)));
     assert_eq!(admit_bytes(16, &bytes(&[1, 64].repeat(64))), 0);
+}
+
+#[test]
+fn fresh_in_place() {
+    let mut record = Record::fresh(1, &[1, 1]).unwrap();
+    record.release(1, 5).unwrap();
+    assert_eq!(start_bytes(&mut record, 4, &bytes(&LIST)), 0);
+    assert_eq!(record, Record::fresh(4, &LIST).unwrap());
+    assert_eq!(start_bytes(&mut record, 1, &[1; 9]), 2);
+    assert_eq!(record, Record::fresh(4, &LIST).unwrap());
 }
 
 #[test]
