@@ -2,9 +2,10 @@
 
 use crate::limits::TASKS;
 use crate::listing;
-use crate::plan::{self, check_cores};
-use crate::record::Record;
+use crate::plan::{self, check_cores, Plan};
+use crate::record::{Record, State};
 use crate::refusal::{self, Refusal};
+use crate::task::Task;
 
 /// Bytes of one task: cost then period, least byte first.
 const TASK_BYTES: usize = 8;
@@ -23,7 +24,7 @@ pub fn start_bytes(record: &mut Record, cores: u32, table: &[u8]) -> u32 {
     let answer = numbers(cores, table).and_then(|table| plan::plan(cores, &table));
     match answer {
         Ok(plan) => {
-            *record = Record::of(&plan);
+            hold(record, &plan);
             0
         }
         Err(refusal) => refusal.no,
@@ -51,6 +52,18 @@ fn list(cores: u32, table: &[u8], buffer: &mut [u8]) -> Result<usize, u32> {
         .and_then(|table| plan::plan(cores, &table))
         .map_err(|refusal| refusal.no)?;
     listing::place(&listing::of_plan(&plan), buffer)
+}
+
+/// Makes a record that of a plan in place: clock 0, no runs, slots past the tasks 0.
+fn hold(record: &mut Record, plan: &Plan) {
+    let (used, unused) = record.tasks.split_at_mut(plan.tasks.len());
+    used.copy_from_slice(&plan.tasks);
+    unused.fill(Task::default());
+    record.states.fill(State::default());
+    record.cores = plan.cores;
+    record.count = plan.tasks.len() as u64;
+    record.common = plan.common;
+    record.clock = 0;
 }
 
 /// The table as numbers; 1 is tested before 2 here as everywhere.
