@@ -1,14 +1,26 @@
 //! The host's calls on tables handed as bytes.
 
-use crate::limits::TASKS;
+use crate::limits::{CORES, RUNS, TASKS};
 use crate::listing;
 use crate::plan::{self, check_cores, Plan};
-use crate::record::{Record, State};
+use crate::record::{Record, Run, State};
 use crate::refusal::{self, Refusal};
 use crate::task::Task;
 
 /// Bytes of one task: cost then period, least byte first.
 const TASK_BYTES: usize = 8;
+/// What a task is at in a fresh record.
+const FRESH: State = State {
+    counts: [0; CORES],
+    place: 0,
+    last: 0,
+    had: 0,
+    runs: [Run {
+        core: 0,
+        deadline: 0,
+    }; RUNS],
+    unfinished: 0,
+};
 
 /// The admission number: 0, or a refusal.
 pub fn admit_bytes(cores: u32, table: &[u8]) -> u32 {
@@ -59,7 +71,7 @@ fn hold(record: &mut Record, plan: &Plan) {
     let (used, unused) = record.tasks.split_at_mut(plan.tasks.len());
     used.copy_from_slice(&plan.tasks);
     unused.fill(Task::default());
-    record.states.fill(State::default());
+    record.states = [FRESH; TASKS];
     record.cores = plan.cores;
     record.count = plan.tasks.len() as u64;
     record.common = plan.common;
