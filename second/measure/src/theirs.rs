@@ -53,8 +53,7 @@ fn make_all(held: &mut Record, calls: &[Call]) -> u64 {
 
 /// Plans the table into the record.
 fn plan_round(held: &mut Record, cores: u32, table: &[u8]) -> u64 {
-    let no = start_bytes(held, cores, table);
-    assert!(no == 0, "the table is refused by {no}");
+    start_bytes(held, cores, table).expect("the table is taken");
     held.common
 }
 

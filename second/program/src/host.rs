@@ -31,16 +31,12 @@ pub fn admit_bytes(cores: u32, table: &[u8]) -> u32 {
     }
 }
 
-/// Plans a table into a lent record: 0, or a refusal, which leaves the record as it was.
-pub fn start_bytes(record: &mut Record, cores: u32, table: &[u8]) -> u32 {
-    let answer = numbers(cores, table).and_then(|table| plan::plan(cores, &table));
-    match answer {
-        Ok(plan) => {
-            hold(record, &plan);
-            0
-        }
-        Err(refusal) => refusal.no,
-    }
+/// Plans a table into a lent record; or a refusal, which leaves the record as it was.
+pub fn start_bytes(record: &mut Record, cores: u32, table: &[u8]) -> Result<(), u32> {
+    numbers(cores, table)
+        .and_then(|table| plan::plan(cores, &table))
+        .map(|plan| hold(record, &plan))
+        .map_err(|refusal| refusal.no)
 }
 
 /// Writes the listing and answers its length, or the refusal number made negative.
@@ -49,13 +45,6 @@ pub fn listing_bytes(cores: u32, table: &[u8], buffer: &mut [u8]) -> i64 {
         Ok(length) => length as i64,
         Err(no) => -i64::from(no),
     }
-}
-
-/// The record of a new plan, or a refusal.
-pub fn start_bytes(cores: u32, table: &[u8]) -> Result<Record, u32> {
-    numbers(cores, table)
-        .and_then(|table| Record::fresh(cores, &table))
-        .map_err(|refusal| refusal.no)
 }
 
 /// Planning's refusals, then 14.

@@ -42,13 +42,12 @@ fn refused(cores: u32, table: &[u32], no: u32, task: usize) {
     assert_eq!(plan(cores, table), Err(refusal));
     assert_eq!(Record::fresh(cores, table), Err(refusal));
     assert_eq!(admit_bytes(cores, &bytes(table)), no);
-    assert_eq!(start_bytes(cores, &bytes(table)), Err(no));
     let mut buffer = [7; 100];
     let answer = listing_bytes(cores, &bytes(table), &mut buffer);
     assert_eq!(answer, -i64::from(no));
     assert_eq!(buffer, [7; 100]);
     let mut record = Record::fresh(4, &LIST).unwrap();
-    assert_eq!(start_bytes(&mut record, cores, &bytes(table)), no);
+    assert_eq!(start_bytes(&mut record, cores, &bytes(table)), Err(no));
     assert_eq!(record, Record::fresh(4, &LIST).unwrap());
 }
 
@@ -122,16 +121,15 @@ fn table_sizes() {
 fn fresh_in_place() {
     let mut record = Record::fresh(1, &[1, 1]).unwrap();
     record.release(1, 5).unwrap();
-    assert_eq!(start_bytes(&mut record, 4, &bytes(&LIST)), 0);
+    assert_eq!(start_bytes(&mut record, 4, &bytes(&LIST)), Ok(()));
     assert_eq!(record, Record::fresh(4, &LIST).unwrap());
-    assert_eq!(start_bytes(&mut record, 1, &[1; 9]), 2);
+    assert_eq!(start_bytes(&mut record, 1, &[1; 9]), Err(2));
     assert_eq!(record, Record::fresh(4, &LIST).unwrap());
 }
 
 #[test]
 fn listings_in_buffers() {
     let record = Record::fresh(4, &LIST).unwrap();
-    assert_eq!(start_bytes(4, &bytes(&LIST)).as_ref(), Ok(&record));
     assert_eq!(listing(&record).unwrap(), LISTING.as_bytes());
     let length = LISTING.len();
     let mut buffer = vec![7; length + 2];

@@ -77,7 +77,7 @@ impl Lent {
                 let choice = three(record.look(number, time)?).map(u64::to_le_bytes);
                 self.first.copy_from_slice(choice.as_flattened());
             }
-            _ => record = start_bytes(number as u32, &self.bytes)?,
+            _ => start_bytes(&mut record, number as u32, &self.bytes)?,
         }
         self.record = layout::bytes(&record);
         Ok(())

@@ -54,7 +54,9 @@ impl Lent {
                 self.answer(&answer?);
             }
             Asked::Start { cores, table } => {
-                self.record = layout::bytes(&start_bytes(*cores, table)?);
+                let mut record = layout::record(&self.record);
+                start_bytes(&mut record, *cores, table)?;
+                self.record = layout::bytes(&record);
             }
         }
         Ok(())
