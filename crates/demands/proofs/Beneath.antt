@@ -19,3 +19,4 @@ pub mod HostLists
 pub mod RefusalLines
 pub mod SaysTable
 pub mod Program
+pub mod HostCalls

@@ -7,3 +7,4 @@ pub mod Demand2
 pub mod Runs
 pub mod Demand3
 pub mod Examples
+pub mod Host

@@ -3,19 +3,12 @@ use Prim.Native.Nat.{ℕ, _*_, _-_, _/_, _%_}
 use mathlib.Core.Bool.{Bool, cond, not, _||_}
 use mathlib.Core.List.{List, [], _++_}
 use lib.Dec.{eqb}
-use lib.IntN.{ℤ, pos}
 use lib.ListN.{length}
 use Rattle.units.specs.Limits.{tasksLimit}
-use Rattle.units.specs.Refusals.{orKept}
 use Rattle.lists.specs.Lists.{zeros}
 use Rattle.little_endian.specs.Number.{numbersOf}
 use Rattle.admission.specs.Refusals.{noTable}
-use Rattle.dispatch.specs.declared.Record.{Record}
-use Rattle.dispatch.specs.declared.plan.Fresh.{Fresh}
-use Rattle.listing.specs.declared.listed.Listed.{Listed}
 use Rattle.host.specs.declared.bytes.Table.{Table}
-use Rattle.host.specs.declared.dispatcher.LentStart.{LentStart}
-use Rattle.host.specs.declared.dispatcher.LentList.{LentList}
 
 -- a table's numbers, then zeros, in an array with room for sixty-four tasks
 abbrev pub filled : List ℕ → List ℕ
@@ -32,11 +25,3 @@ heldOf bytes = cond (unread bytes) [] (numbersOf bytes)
 -- those numbers and how many they are
 unfoldable pub heldTable : List ℕ → Table
 heldTable bytes = record { numbers = filled (heldOf bytes); count = length (heldOf bytes) }
-
--- planning's answer laid over the record that was lent
-unfoldable pub startLent : Fresh → Record → LentStart
-startLent a held = record { refusal = a .refusal .no; next = orKept (a .refusal .no) (a .next) held }
-
--- a listing's length laid over the one that was lent
-unfoldable pub listLent : Listed → ℤ → LentList
-listLent a len = record { refusal = a .refusal .no; len = orKept (a .refusal .no) (pos (a .length)) len }

@@ -8,17 +8,11 @@ use dispatch::release::Released;
 use listing::listed::list;
 use units::ticks::Ticks;
 ghost use mathlib.Core.Path.{_≡_};
-ghost use lib.IntN.{pos};
-ghost use lib.ListN.{length};
-ghost use Rattle.units.specs.Refusals.{orKept};
-ghost use Rattle.dispatch.specs.Record.{freshOf};
-ghost use Rattle.dispatch.specs.Release.{releaseOf, releaseOr};
-ghost use Rattle.dispatch.specs.Finish.{finishOf, finishOr};
-ghost use Rattle.dispatch.specs.Look.{lookOf, lookOr};
-ghost use Rattle.listing.specs.Listed.{listedOf, bufferAfter};
-ghost use Rattle.core_choice.specs.Told.{toldOf};
-ghost use Rattle.host.specs.Host.{tableIn};
-ghost use Rattle.host.specs.Inner.{startLent, listLent};
+ghost use Rattle.dispatch.specs.Release.{releaseOr};
+ghost use Rattle.dispatch.specs.Finish.{finishOr};
+ghost use Rattle.dispatch.specs.Look.{lookOr};
+ghost use Rattle.listing.specs.Listed.{bufferAfter};
+ghost use Rattle.host.specs.Dispatcher.{startOr, listOr};
 
 // What planning leaves in the record that is lent.
 pub(crate) struct LentStart {
@@ -28,7 +22,7 @@ pub(crate) struct LentStart {
 
 // The fresh record of a byte table; or the refusal, and the record as it was.
 fn start(held: Record, cores: u32, table: &[u8]) -> LentStart
-    ensures { λ r. ⌜ r ≡ startLent (freshOf cores (tableIn (now (table .entry)))) held ⌝ }
+    ensures { λ r. ⌜ r ≡ startOr held cores (now (table .entry)) ⌝ }
 {
     let read = table_of(table);
     let numbers = read.numbers;
@@ -49,8 +43,8 @@ fn start(held: Record, cores: u32, table: &[u8]) -> LentStart
 // Plans a byte table: 0 and the fresh record, or the refusal.
 #[no_mangle]
 pub extern "C" fn yagomila_start(held: &mut Record, cores: u32, table: &[u8]) -> u32
-    ensures { λ r. ⌜ (let a = freshOf cores (tableIn (now (table .entry))) in
-        (r ≡ a .refusal .no) × (now (held .exit) ≡ orKept (a .refusal .no) (a .next) (now (held .entry)))) ⌝ }
+    ensures { λ r. ⌜ (let a = startOr (now (held .entry)) cores (now (table .entry)) in
+        (r ≡ a .refusal) × (now (held .exit) ≡ a .next)) ⌝ }
 {
     let after = start(*held, cores, table);
     *held = after.next;
@@ -73,10 +67,8 @@ pub extern "C" fn yagomila_release(
     core: &mut usize,
     deadline: &mut Ticks,
 ) -> u32
-    ensures { λ r. ⌜ (let a = releaseOf (now (held .entry)) task time in
-        (r ≡ a .refusal) × (now (held .exit) ≡ a .next)
-        × (now (core .exit) ≡ orKept (a .refusal) (a .core) (now (core .entry)))
-        × (now (deadline .exit) ≡ orKept (a .refusal) (a .deadline) (now (deadline .entry)))) ⌝ }
+    ensures { λ r. ⌜ (let a = releaseOr (now (held .entry)) task time (now (core .entry)) (now (deadline .entry)) in
+        (r ≡ a .refusal) × (now (held .exit) ≡ a .next) × (now (core .exit) ≡ a .core) × (now (deadline .exit) ≡ a .deadline)) ⌝ }
 {
     let after = release(*held, task, time, *core, *deadline);
     *held = after.next;
@@ -95,8 +87,8 @@ fn finish(held: Record, task: usize, time: u64, late: i64) -> Finished
 // A finish: 0 with the time less the deadline, or the refusal.
 #[no_mangle]
 pub extern "C" fn yagomila_finish(held: &mut Record, task: usize, time: u64, late: &mut i64) -> u32
-    ensures { λ r. ⌜ (let a = finishOf (now (held .entry)) task time in
-        (r ≡ a .refusal) × (now (held .exit) ≡ a .next) × (now (late .exit) ≡ orKept (a .refusal) (a .late) (now (late .entry)))) ⌝ }
+    ensures { λ r. ⌜ (let a = finishOr (now (held .entry)) task time (now (late .entry)) in
+        (r ≡ a .refusal) × (now (held .exit) ≡ a .next) × (now (late .exit) ≡ a .late)) ⌝ }
 {
     let after = finish(*held, task, time, *late);
     *held = after.next;
@@ -114,8 +106,8 @@ fn look(held: Record, core: usize, time: u64, choice: Told) -> LookedTold
 // A look: 0 with the core's choice, or the refusal.
 #[no_mangle]
 pub extern "C" fn yagomila_look(held: &mut Record, core: usize, time: u64, choice: &mut Told) -> u32
-    ensures { λ r. ⌜ (let a = lookOf (now (held .entry)) core time in
-        (r ≡ a .refusal) × (now (held .exit) ≡ a .next) × (now (choice .exit) ≡ orKept (a .refusal) (toldOf (a .choice)) (now (choice .entry)))) ⌝ }
+    ensures { λ r. ⌜ (let a = lookOr (now (held .entry)) core time (now (choice .entry)) in
+        (r ≡ a .refusal) × (now (held .exit) ≡ a .next) × (now (choice .exit) ≡ a .told)) ⌝ }
 {
     let after = look(*held, core, time, *choice);
     *held = after.next;
@@ -131,7 +123,7 @@ pub(crate) struct LentList {
 
 // The listing of the record's plan in the buffer, and its length; or the refusal, and both as they were.
 fn list_into(held: Record, buf: &mut [u8], len: i64) -> LentList
-    ensures { λ r. ⌜ (r ≡ listLent (listedOf held (length (now (buf .entry)))) len) × (now (buf .exit) ≡ bufferAfter held (now (buf .entry))) ⌝ }
+    ensures { λ r. ⌜ (r ≡ listOr held (now (buf .entry)) len) × (now (buf .exit) ≡ bufferAfter held (now (buf .entry))) ⌝ }
 {
     let listed = list(held, buf);
     let refusal = listed.refusal;
@@ -148,10 +140,8 @@ fn list_into(held: Record, buf: &mut [u8], len: i64) -> LentList
 // The record's listing: 0 with its length in bytes, or the refusal.
 #[no_mangle]
 pub extern "C" fn yagomila_list(held: &Record, buf: &mut [u8], len: &mut i64) -> u32
-    ensures { λ r. ⌜ (let a = listedOf (now (held .entry)) (length (now (buf .entry))) in
-        (r ≡ a .refusal .no)
-        × (now (buf .exit) ≡ bufferAfter (now (held .entry)) (now (buf .entry)))
-        × (now (len .exit) ≡ orKept (a .refusal .no) (pos (a .length)) (now (len .entry)))) ⌝ }
+    ensures { λ r. ⌜ (let a = listOr (now (held .entry)) (now (buf .entry)) (now (len .entry)) in
+        (r ≡ a .refusal) × (now (buf .exit) ≡ bufferAfter (now (held .entry)) (now (buf .entry))) × (now (len .exit) ≡ a .len)) ⌝ }
 {
     let after = list_into(*held, buf, *len);
     *len = after.len;

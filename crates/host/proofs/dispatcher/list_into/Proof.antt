@@ -43,7 +43,7 @@ returns : tie.Need-returns
 returns c =
     let k = c .before .before .before .before .before .before in
     let s = k .before .before .before .args in
-    (list-taken (s .len) (k .list .ensures .0) (toZ-pos w64 (k .list .result .length) (omega (arith, short k))) (c .before .if1 .taken), k .list .ensures .1)
+    (list-taken (s .held) (s .buf .now) (s .len) (k .list .ensures .0) (toZ-pos w64 (k .list .result .length) (omega (arith, short k))) (c .before .if1 .taken), k .list .ensures .1)
 
 same-length-2 : tie.Need-same-length-2
 same-length-2 c = search needs
@@ -53,7 +53,7 @@ returns-2 c =
     let k = c .before .before .before .before .before in
     let s = k .before .before .before .args in
     let w : SFits w64 (s .len) = search needs in
-    (list-refused (s .len) (k .list .ensures .0) (toZ-ofZ w64 (s .len) w) (c .if1 .left), k .list .ensures .1)
+    (list-refused (s .held) (s .buf .now) (s .len) (k .list .ensures .0) (toZ-ofZ w64 (s .len) w) (c .if1 .left), k .list .ensures .1)
 
 pub list-into-spec : {M : Type 1} → statement M
 list-into-spec =

@@ -3,7 +3,7 @@ use mathlib.Core.Path.{_≡_, ap, _∙_}
 use Rattle.dispatch.specs.Record.{freshOf}
 use Rattle.host.specs.Inner.{heldOf}
 use Rattle.host.proofs.Held.{part-within, part}
-use Rattle.host.proofs.Started.{start-taken, start-refused, start-same}
+use Rattle.host.proofs.Started.{start-taken, start-refused}
 use borrow.Author.Needs.{needs}
 use Rattle.host.proofs.dispatcher.start.Statement.{statement}
 use Rattle.host.proofs.dispatcher.start.Tie as tie
@@ -38,12 +38,14 @@ fresh-requires c κs = search needs
 returns : tie.Need-returns
 returns c =
     let k = c .before .before .before .before in
-    start-taken ((k .before .before .before .before .before .before .args) .held) (planned k) (c .before .if1 .taken) ∙ start-same ((k .before .before .before .before .before .before .args) .held) ((k .before .before .before .before .before .before .args) .cores) ((k .before .before .before .before .before .before .args) .table .now)
+    let s = k .before .before .before .before .before .before .args in
+    start-taken (s .held) (s .cores) (s .table .now) (planned k) (c .before .if1 .taken)
 
 returns-2 : tie.Need-returns-2
 returns-2 c =
     let k = c .before .before .before in
-    start-refused ((k .before .before .before .before .before .before .args) .held) (planned k) (c .if1 .left) ∙ start-same ((k .before .before .before .before .before .before .args) .held) ((k .before .before .before .before .before .before .args) .cores) ((k .before .before .before .before .before .before .args) .table .now)
+    let s = k .before .before .before .before .before .before .args in
+    start-refused (s .held) (s .cores) (s .table .now) (planned k) (c .if1 .left)
 
 pub start-spec : {M : Type 1} → statement M
 start-spec =

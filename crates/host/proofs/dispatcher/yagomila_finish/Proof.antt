@@ -11,7 +11,7 @@ use Rattle.host.proofs.dispatcher.yagomila_finish.Statement.{statement}
 use Rattle.host.proofs.dispatcher.yagomila_finish.Code as code
 
 pub yagomila-finish-spec : {M : Type 1} → statement M
-unfolding code.routine finishOr
+unfolding code.routine
 yagomila-finish-spec 𝓤 H 𝓜 𝓖 𝓡 =
     proves held (signed w64) finished w64 w64 finishOr 𝓤 H 𝓜 𝓖 𝓡
     code.env f.name g.name g.routine code.calls-host·dispatcher·finish (code.unfolded 𝓤 H 𝓜 𝓡) (g-thm.met 𝓤 H 𝓜 𝓖 𝓡)

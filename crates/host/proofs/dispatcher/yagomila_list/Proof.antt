@@ -1,10 +1,9 @@
 -- `host::dispatcher::yagomila_list` meets its contract, as a call that fills a lent buffer.
 use mir.Syntax.{w8, w64}
-use lib.ListN.{length}
-use Rattle.listing.specs.Listed.{listedOf, bufferAfter}
+use Rattle.listing.specs.Listed.{bufferAfter}
 use Rattle.exports.proofs.Held.{signed}
 use Rattle.exports.proofs.ListInto.{proves}
-use Rattle.host.specs.Inner.{listLent}
+use Rattle.host.specs.Dispatcher.{listOr}
 use Rattle.host.proofs.dispatcher.list_into.Symbol as g
 use Rattle.host.proofs.dispatcher.list_into.Met as g-thm
 use Rattle.host.proofs.Types.{held, listed}
@@ -13,7 +12,7 @@ use Rattle.host.proofs.dispatcher.yagomila_list.Statement.{statement}
 use Rattle.host.proofs.dispatcher.yagomila_list.Code as code
 
 pub yagomila-list-spec : {M : Type 1} → statement M
-unfolding code.routine listLent
+unfolding code.routine
 yagomila-list-spec 𝓤 H 𝓜 𝓖 𝓡 =
-    proves held (signed w64) listed w8 (λ r buf len. listLent (listedOf r (length buf)) len) bufferAfter 𝓤 H 𝓜 𝓖 𝓡
+    proves held (signed w64) listed w8 listOr bufferAfter 𝓤 H 𝓜 𝓖 𝓡
     code.env f.name g.name g.routine code.calls-host·dispatcher·list-into (code.unfolded 𝓤 H 𝓜 𝓡) (g-thm.met 𝓤 H 𝓜 𝓖 𝓡)

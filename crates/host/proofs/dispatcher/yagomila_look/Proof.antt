@@ -10,7 +10,7 @@ use Rattle.host.proofs.dispatcher.yagomila_look.Statement.{statement}
 use Rattle.host.proofs.dispatcher.yagomila_look.Code as code
 
 pub yagomila-look-spec : {M : Type 1} → statement M
-unfolding code.routine lookOr
+unfolding code.routine
 yagomila-look-spec 𝓤 H 𝓜 𝓖 𝓡 =
     proves held told looked w64 w64 lookOr 𝓤 H 𝓜 𝓖 𝓡
     code.env f.name g.name g.routine code.calls-host·dispatcher·look (code.unfolded 𝓤 H 𝓜 𝓡) (g-thm.met 𝓤 H 𝓜 𝓖 𝓡)

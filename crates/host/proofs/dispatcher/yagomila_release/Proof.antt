@@ -11,7 +11,7 @@ use Rattle.host.proofs.dispatcher.yagomila_release.Statement.{statement
 use Rattle.host.proofs.dispatcher.yagomila_release.Code as code
 
 pub yagomila-release-spec : {M : Type 1} → statement M
-unfolding code.routine releaseOr
+unfolding code.routine
 yagomila-release-spec 𝓤 H 𝓜 𝓖 𝓡 =
     proves held (number w64) time released w64 w64 releaseOr 𝓤 H 𝓜 𝓖 𝓡
     code.env f.name g.name g.routine code.calls-host·dispatcher·release (code.unfolded 𝓤 H 𝓜 𝓡) (g-thm.met 𝓤 H 𝓜 𝓖 𝓡)
