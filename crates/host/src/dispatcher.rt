@@ -126,13 +126,13 @@ fn list_into(held: Record, buf: &mut [u8], len: i64) -> LentList
     ensures { λ r. ⌜ (r ≡ listOr held (now (buf .entry)) len) × (now (buf .exit) ≡ bufferAfter held (now (buf .entry))) ⌝ }
 {
     let listed = list(held, buf);
-    let refusal = listed.refusal;
+    let refused = listed.refusal;
     let mut written = len;
-    if refusal.no == 0 {
+    if refused.no == 0 {
         written = listed.length as i64;
     }
     LentList {
-        refusal: refusal.no,
+        refusal: refused.no,
         len: written,
     }
 }

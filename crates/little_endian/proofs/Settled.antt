@@ -2,10 +2,6 @@
 use mathlib.Core.Path.{sym, _∙_}
 use Rattle.lists.specs.Settled.{Settled}
 use Rattle.little_endian.proofs.number32.Reads as Number32
-use Rattle.little_endian.proofs.number64.Reads as Number64
 
 pub number32 : Settled Number32.Post
 number32 κs a x y e f p q = p ∙ sym q
-
-pub number64 : Settled Number64.Post
-number64 κs a x y e f p q = p ∙ sym q

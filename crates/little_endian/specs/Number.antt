@@ -19,10 +19,6 @@ numbersOf (a ∷ b ∷ c ∷ d ∷ bytes) = number a b c d ∷ numbersOf bytes
 abbrev pub number32At : List ℕ → ℕ → ℕ
 number32At bytes at = number (getD bytes at 0) (getD bytes (at + 1) 0) (getD bytes (at + 2) 0) (getD bytes (at + 3) 0)
 
--- the number of 64 bits at a place
-unfoldable pub number64At : List ℕ → ℕ → ℕ
-number64At bytes at = number32At bytes at + 4294967296 * number32At bytes (at + 4)
-
 -- no reader is asked for a place from here on
 abbrev pub farthest : ℕ
 farthest = 4294967296

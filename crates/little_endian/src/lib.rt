@@ -1,8 +1,8 @@
 // Numbers in bytes, least byte first, at a place of a lent slice. A byte past its end counts as 0.
 ghost use mathlib.Core.Path.{_≡_};
-ghost use Prim.Native.Nat.{_+_, _<_};
+ghost use Prim.Native.Nat.{_<_};
 ghost use lib.ListN.{getD};
-ghost use Rattle.little_endian.specs.Number.{number, number32At, number64At, farthest};
+ghost use Rattle.little_endian.specs.Number.{number, number32At, farthest};
 
 // The byte at a place.
 fn byte_at(bytes: &[u8], at: usize) -> u8
@@ -28,14 +28,4 @@ pub fn number32(bytes: &[u8], at: usize) -> u32
     let c = byte_at(bytes, at + 2);
     let d = byte_at(bytes, at + 3);
     number_of(a, b, c, d)
-}
-
-// The number of 64 bits at a place.
-pub fn number64(bytes: &[u8], at: usize) -> u64
-    requires { ⌜ at + 4 < farthest ⌝ }
-    ensures { λ r. ⌜ r ≡ number64At (now (bytes .entry)) at ⌝ }
-{
-    let low = number32(bytes, at);
-    let high = number32(bytes, at + 4);
-    low as u64 + 4_294_967_296 * (high as u64)
 }
