@@ -1,16 +1,13 @@
--- The numbers of an answer: they settle a choice, and each call answers those of its rule.
+-- The numbers of an answer: each call answers those of its rule.
 use Prim.Native.Nat.{ℕ}
-use mathlib.Core.Path.{_≡_, refl, sym, ap, _∙_}
+use mathlib.Core.Path.{_≡_, refl}
 use mathlib.Core.Logic.{_⊎_, inl, inr}
-use mathlib.Core.Bool.{cond}
 use lib.Dec.{eqb}
 use lib.IntN.{pos}
 use Rattle.units.specs.Units.{ticks}
 use Rattle.lists.proofs.Tests.{by-cases}
 use Rattle.dispatch.specs.declared.Record.{Record}
-use Rattle.core_choice.specs.declared.Side.the-variants.{Upper, Lower}
 use Rattle.core_choice.specs.declared.Choice.{Choice}
-use Rattle.core_choice.specs.declared.Choice.the-variants.{Idle, Fixed, Mover}
 use Rattle.dispatch.specs.declared.call.Call.the-variants.{Release, Finish, Look}
 use Rattle.dispatch.specs.declared.call.Answer.{Answer}
 use Rattle.dispatch.specs.declared.call.Answer.the-variants.{Refused, Released, Finished, Looked}
@@ -21,12 +18,7 @@ use Rattle.dispatch.specs.Look.{lookOf}
 use Rattle.dispatch.specs.Calls.{refusalIn, answeredOf}
 use Rattle.dispatch.specs.Choice.{Waits, deadlineAt, UpperOn, LowerOn, FixedOn, GoesFirst, Chosen, idle, as-upper, as-lower, as-fixed}
 use Rattle.core_choice.specs.Told.{choiceKind, choiceTask, choiceDeadline}
-use Rattle.core_choice.proofs.Numbers.{told-same}
 use Rattle.dispatch.specs.Values.{valuesOf}
-
--- its numbers settle a choice
-pub choice-same : (a b : Choice) → choiceKind a ≡ choiceKind b → choiceTask a ≡ choiceTask b → choiceDeadline a ≡ choiceDeadline b → a ≡ b
-choice-same a b k i d = told-same a b (rw (k, i, d))
 
 -- the choice that document 01 describes, in numbers
 pub chosen-told : {r : Record} {k : ℕ} {x : Choice} → Chosen r k x
