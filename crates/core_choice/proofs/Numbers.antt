@@ -26,6 +26,31 @@ told-again (Mover i d Lower) = refl
 pub told-same : (a b : Choice) → toldOf a ≡ toldOf b → a ≡ b
 told-same a b e = sym (told-again a) ∙ ap choiceTold e ∙ told-again b
 
+-- the choice that numbers tell, by their kind
+module _ (n : Told) where
+  pub as-idle : n .kind ≡ 0 → Idle ≡ choiceTold n
+  as-idle e = rw e
+
+  pub as-fixed : (n .kind ≡ 0 → ⊥) → n .kind ≡ 1 → Fixed (n .task) (n .deadline) ≡ choiceTold n
+  as-fixed z e = rw (ne-eqb (n .kind) 0 z, e)
+
+  pub as-lower : (n .kind ≡ 0 → ⊥) → (n .kind ≡ 1 → ⊥) → n .kind ≡ 2 → Mover (n .task) (n .deadline) Lower ≡ choiceTold n
+  as-lower z f e = rw (ne-eqb (n .kind) 0 z, ne-eqb (n .kind) 1 f, e)
+
+  pub as-upper : (n .kind ≡ 0 → ⊥) → (n .kind ≡ 1 → ⊥) → (n .kind ≡ 2 → ⊥) → Mover (n .task) (n .deadline) Upper ≡ choiceTold n
+  as-upper z f l = rw (ne-eqb (n .kind) 0 z, ne-eqb (n .kind) 1 f, ne-eqb (n .kind) 2 l)
+
+-- a kind, by a key
+module _ (key : ℕ) where
+  pub kind-upper : key ≡ 0 → 3 ≡ kindBy key
+  kind-upper e = rw e
+
+  pub kind-lower : (key ≡ 0 → ⊥) → key ≡ 1 → 2 ≡ kindBy key
+  kind-lower u e = rw (ne-eqb key 0 u, e)
+
+  pub kind-fixed : (key ≡ 0 → ⊥) → (key ≡ 1 → ⊥) → 1 ≡ kindBy key
+  kind-fixed u l = rw (ne-eqb key 0 u, ne-eqb key 1 l)
+
 -- the numbers of the best task, if there is one
 pub best-told : (b : Best) (due : Ticks) {k : ℕ} → 0 < b .task → k ≡ kindBy (b .key)
     → _≡_ {A = Told} (record { kind = k; task = b .task; deadline = due }) (toldOf (choiceBy b (due .0)))
