@@ -11,7 +11,8 @@
  * - Nothing is kept between calls but in the record, nothing is allocated, and no lock, file or clock is touched. Calls
  *   may run at the same time in several threads, as long as none writes what another reads.
  * - A table or a buffer may be null where its length is 0. Every other pointer is valid, aligned as its type is, and
- *   not null; what two pointers of one call lend does not overlap.
+ *   not null; what two pointers of one call lend does not overlap. What an answer is written to may hold anything
+ *   before.
  * - A call needs stack: YAGOMILA_STACK_MAX bytes are enough. That is measured; the proofs say nothing of the stack.
  *
  * Link with libhost.a, which is for x86-64 Linux and needs memcpy, memset, memmove and memcmp alone.
@@ -57,16 +58,17 @@ extern "C" {
 /* The lent record is unsound: it is no record of a plan, or it was changed. */
 #define YAGOMILA_REFUSED_UNSOUND 15
 
-/* Cores, tasks, and unfinished runs of a task, at most. */
+/* Cores, tasks, unfinished runs of a task, and a call's time in ticks, at most. */
 #define YAGOMILA_CORES_MAX 16
 #define YAGOMILA_TASKS_MAX 64
 #define YAGOMILA_RUNS_MAX 8
+#define YAGOMILA_CLOCK_MAX 1000000000000
 /* The bytes of a task in a table. */
 #define YAGOMILA_TASK_BYTES 8
 /* A buffer of this many bytes is enough for the listing of any table that is taken. */
 #define YAGOMILA_LISTING_MAX 15960
 /* Free bytes of stack to have for a call: at least twice what any call took where it was measured. */
-#define YAGOMILA_STACK_MAX 196608
+#define YAGOMILA_STACK_MAX 131072
 
 /*
  * The record: the plan, the clock, and what each task is at. A host lends it to the calls; it may copy, store and
