@@ -82,7 +82,7 @@ impl Lent {
 }
 
 /// A choice's kind, task and deadline.
-fn numbers(choice: Choice) -> [u64; 3] {
+pub fn numbers(choice: Choice) -> [u64; 3] {
     match choice {
         Choice::Idle => [0; 3],
         Choice::Fixed { task, deadline } => [1, task, deadline],

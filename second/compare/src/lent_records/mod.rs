@@ -9,7 +9,7 @@ mod held;
 mod in_turn;
 mod lack;
 pub mod layout;
-mod lent;
+pub mod lent;
 mod made;
 mod question;
 mod reach;
