@@ -1,7 +1,10 @@
 pub mod Held
+pub mod Answer
+pub mod Steps
 pub mod Called
+pub mod Params
 pub mod Exported
-pub mod Fills
-pub mod OneOut
-pub mod TwoOuts
-pub mod ListInto
+pub mod OneValueOut
+pub mod TwoValuesOut
+pub mod FillsRecord
+pub mod FillsBuffer

@@ -43,7 +43,10 @@ returns : tie.Need-returns
 returns c =
     let k = c .before .before .before .before .before .before in
     let s = k .before .before .before .args in
-    (list-taken (s .held) (s .buf .now) (s .len) (k .list .ensures .0) (toZ-pos w64 (k .list .result .length) (omega (arith, short k))) (c .before .if1 .taken), k .list .ensures .1)
+    let l = k .list .result .length in (
+      list-taken (s .held) (s .buf .now) (s .len) (k .list .ensures .0) (toZ-pos w64 l (omega (arith, short k))) (c .before .if1 .taken),
+      k .list .ensures .1,
+    )
 
 same-length-2 : tie.Need-same-length-2
 same-length-2 c = search needs

@@ -2,7 +2,8 @@
 use mir.Syntax.{w64}
 use Rattle.dispatch.specs.Finish.{finishOr}
 use Rattle.exports.proofs.Held.{signed}
-use Rattle.exports.proofs.OneOut.{proves}
+use Rattle.exports.proofs.OneValueOut.{oneValueOut}
+use Rattle.exports.proofs.Exported.{proves}
 use Rattle.host.proofs.dispatcher.finish.Symbol as g
 use Rattle.host.proofs.dispatcher.finish.Met as g-thm
 use Rattle.host.proofs.Types.{held, finished}
@@ -13,5 +14,5 @@ use Rattle.host.proofs.dispatcher.yagomila_finish.Code as code
 pub yagomila-finish-spec : {M : Type 1} → statement M
 unfolding code.routine
 yagomila-finish-spec 𝓤 H 𝓜 𝓖 𝓡 =
-    proves held (signed w64) finished w64 w64 finishOr 𝓤 H 𝓜 𝓖 𝓡
+    proves (oneValueOut held (signed w64) finished w64 w64 finishOr) 𝓤 H 𝓜 𝓖 𝓡
     code.env f.name g.name g.routine code.calls-host·dispatcher·finish (code.unfolded 𝓤 H 𝓜 𝓡) (g-thm.met 𝓤 H 𝓜 𝓖 𝓡)
