@@ -1,7 +1,7 @@
 -- The dispatcher for the host in C: what each call leaves in the record and in the numbers that are lent to it.
 -- The contracts of `yagomila_start`, `yagomila_release`, `yagomila_finish`, `yagomila_look` and `yagomila_list` name these definitions.
 use Prim.Native.Nat.{ℕ}
-use mathlib.Core.Path.{_≡_, sym, _∙_}
+use mathlib.Core.Path.{_≡_, refl, sym, _∙_}
 use mathlib.Core.List.{List, _++_}
 use lib.IntN.{ℤ, pos}
 use lib.ListN.{length, drop}
@@ -16,7 +16,7 @@ use Rattle.dispatch.specs.Record.{freshOf}
 use Rattle.dispatch.specs.Release.{releaseOf, releaseOr}
 use Rattle.dispatch.specs.Finish.{finishOf, finishOr}
 use Rattle.dispatch.specs.Look.{lookOf, lookOr}
-use Rattle.dispatch.specs.Calls.{callRefusal}
+use Rattle.dispatch.specs.Calls.{callRefusal, step}
 use Rattle.listing.specs.Listing.{listingText}
 use Rattle.listing.specs.Listed.{listedOf, bufferAfter}
 use Rattle.host.specs.Host.{tableIn, admitOf}
@@ -26,6 +26,14 @@ use Rattle.demands.proofs.Lent.{record-refused, record-listed}
 
 -- a call on a record r that is lent; t is its time
 module _ (r : Record) (i : ℕ) (t : Ticks) where
+  -- accepted or refused, the record goes on as any calls' does: what the other pages say over calls holds of a record that is lent to them
+  pub lent-steps : (core : ℕ) (deadline : Ticks) (late : ℤ) (told : Told)
+      → (releaseOr r i (t .0) core deadline .next ≡ step r (Release i t))
+      × (finishOr r i (t .0) late .next ≡ step r (Finish i t))
+      × (lookOr r i (t .0) told .next ≡ step r (Look i t))
+  unfolding releaseOr finishOr lookOr
+  lent-steps core deadline late told = (refl, refl, refl)
+
   -- a release that is accepted leaves the record that document 01's hands on, and writes the core and the deadline that it answers
   pub lent-release : (core : ℕ) (deadline : Ticks) → callRefusal r (Release i t) ≡ 0 → releaseOr r i (t .0) core deadline ≡ releaseOf r i (t .0)
   lent-release = release-taken r i t
