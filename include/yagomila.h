@@ -7,7 +7,8 @@
  *
  * Of every call:
  * - Any number, any table and any bytes of a lent record get an answer: no value is undefined, and the first refusal
- *   that applies is given. A refusal changes no byte of what is lent.
+ *   that applies is given. A refusal changes no byte of what is lent; it may store the bytes that stood there, so what
+ *   is lent to be written must be writable, and no other thread may write it meanwhile.
  * - Nothing is kept between calls but in the record, nothing is allocated, and no lock, file or clock is touched. Calls
  *   may run at the same time in several threads, as long as none writes what another reads.
  * - A table or a buffer may be null where its length is 0. Every other pointer is valid, aligned as its type is, and
