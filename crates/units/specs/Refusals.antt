@@ -1,4 +1,4 @@
--- Document 01, "Refusal numbers": a refusal, and the number of each case.
+-- Document 01, "Refusal numbers", and document 02: a refusal, and the number of each case.
 use Prim.Native.Nat.{ℕ}
 use mathlib.Core.Bool.{cond}
 use lib.Dec.{eqb}
@@ -77,6 +77,18 @@ unsoundNo = 15
 abbrev pub textNo : ℕ
 textNo = 16
 
+-- a line of an office sheet after its first can't be read, or the sheet is too long
+abbrev pub sheetNo : ℕ
+sheetNo = 17
+
+-- an office sheet has the same name twice
+abbrev pub nameNo : ℕ
+nameNo = 18
+
+-- an office sheet's first line can't be read, or its tick length is out of range
+abbrev pub tickNo : ℕ
+tickNo = 19
+
 -- what an accepted call answers; what was lent for it where the call is refused
 abbrev pub orKept : {A : Type 0} → ℕ → A → A → A
 orKept n answered lent = cond (eqb n 0) answered lent
@@ -100,4 +112,7 @@ theNumbers = record {
   buffer = bufferNo;
   unsound = unsoundNo;
   text = textNo;
+  sheet = sheetNo;
+  name = nameNo;
+  tick = tickNo;
 }

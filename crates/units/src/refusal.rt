@@ -1,4 +1,4 @@
-// Refusals of document 01, "Refusal numbers". Each number stands here once and once in specs/Refusals; `in_force` shows that the two agree.
+// Refusals of document 01, "Refusal numbers", and of document 02. Each number stands here once and once in specs/Refusals; `in_force` shows that the two agree.
 ghost use mathlib.Core.Path.{_≡_};
 ghost use Rattle.units.specs.Refusals.{theNumbers};
 
@@ -43,6 +43,12 @@ impl Refusal {
     pub const UNSOUND: u32 = 15;
     // The program's text can't be read.
     pub const TEXT: u32 = 16;
+    // A line of an office sheet after its first can't be read, or the sheet is too long.
+    pub const SHEET: u32 = 17;
+    // An office sheet has the same name twice.
+    pub const NAME: u32 = 18;
+    // An office sheet's first line can't be read, or its tick length is out of range.
+    pub const TICK: u32 = 19;
 }
 
 pub struct Numbers {
@@ -62,6 +68,9 @@ pub struct Numbers {
     pub buffer: u32,
     pub unsound: u32,
     pub text: u32,
+    pub sheet: u32,
+    pub name: u32,
+    pub tick: u32,
 }
 
 // The numbers that the code goes by are those that the definitions go by.
@@ -85,5 +94,8 @@ pub fn in_force() -> Numbers
         buffer: Refusal::BUFFER,
         unsound: Refusal::UNSOUND,
         text: Refusal::TEXT,
+        sheet: Refusal::SHEET,
+        name: Refusal::NAME,
+        tick: Refusal::TICK,
     }
 }
