@@ -1,5 +1,7 @@
 //! One input of a process, cut into the cases that are compared.
 
+use crate::command::Said;
+
 /// A case: what is asked, what must be answered, and the refusals met (0 for none).
 pub struct Case {
     pub input: Vec<u8>,
@@ -7,12 +9,20 @@ pub struct Case {
     pub met: Vec<u32>,
 }
 
+/// What is read in an answer to an input.
+pub type Reader = fn(&[u8], &[u8]) -> Vec<u8>;
+
 /// The cases of one process, with what stands before the first.
+#[derive(Default)]
 pub struct Batch {
+    /// The place of the asked program among the kind's.
+    pub program: usize,
     pub head: Vec<u8>,
     pub cases: Vec<Case>,
     /// Whether a case stands on those before it.
     pub in_turn: bool,
+    /// Reads what the product wrote, where what is read is compared too.
+    pub reader: Option<Reader>,
 }
 
 /// The first case that the product answers otherwise.
@@ -29,10 +39,17 @@ impl Batch {
     /// A batch of one case.
     pub fn single(input: Vec<u8>, answer: Vec<u8>, met: Vec<u32>) -> Self {
         Batch {
-            head: Vec::new(),
             cases: vec![Case { input, answer, met }],
-            in_turn: false,
+            ..Batch::default()
         }
+    }
+
+    /// What the program said, and what is read in it.
+    pub fn read(&self, mut said: Said) -> Said {
+        if let Some(reader) = self.reader {
+            said.bytes.extend(reader(&self.input(), &said.bytes));
+        }
+        said
     }
 
     /// What the process reads.

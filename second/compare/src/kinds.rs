@@ -1,11 +1,13 @@
-//! The four kinds of cases.
+//! The five kinds of cases.
 
 use crate::batch::Batch;
 use crate::random::Random;
-use crate::{calls, host, lent_records, texts};
+use crate::{calls, host, lent_records, sheets, texts};
 
 pub struct Kind {
     pub name: &'static str,
+    /// The product's programs that it asks; each has an option of its name.
+    pub programs: &'static [&'static str],
     /// What one case is, in the report's words.
     pub cases: &'static str,
     /// Makes one batch, asked of one process.
@@ -16,9 +18,10 @@ pub struct Kind {
     pub meets_all: bool,
 }
 
-pub const KINDS: [Kind; 4] = [
+pub const KINDS: [Kind; 5] = [
     Kind {
         name: "plan",
+        programs: &["plan"],
         cases: "texts",
         batch: texts::batch,
         refusals: &[1, 2, 3, 4, 5, 6, 16],
@@ -26,6 +29,7 @@ pub const KINDS: [Kind; 4] = [
     },
     Kind {
         name: "host",
+        programs: &["host"],
         cases: "tables with a buffer",
         batch: host::batch,
         refusals: &[1, 2, 3, 4, 5, 6, 14],
@@ -33,6 +37,7 @@ pub const KINDS: [Kind; 4] = [
     },
     Kind {
         name: "calls",
+        programs: &["calls"],
         cases: "inputs of calls",
         batch: calls::batch,
         refusals: &[1, 2, 3, 4, 5, 6, 7, 8, 9, 10, 11, 12, 13, 16],
@@ -40,9 +45,18 @@ pub const KINDS: [Kind; 4] = [
     },
     Kind {
         name: "lent_records",
+        programs: &["lent_records"],
         cases: "questions of records",
         batch: lent_records::batch,
         refusals: &[1, 2, 3, 4, 5, 6, 7, 8, 9, 10, 11, 12, 13, 14, 15],
         meets_all: true,
+    },
+    Kind {
+        name: "sheets",
+        programs: &sheets::PROGRAMS,
+        cases: "sheets and tables with names",
+        batch: sheets::batch,
+        refusals: &[1, 2, 3, 4, 5, 6, 16, 17, 18, 19],
+        meets_all: false,
     },
 ];

@@ -13,6 +13,7 @@ pub mod random;
 pub mod report;
 pub mod run;
 pub mod save;
+pub mod sheets;
 pub mod tables;
 pub mod tally;
 pub mod texts;

@@ -1,4 +1,4 @@
-//! `compare --plan CMD --calls CMD --host CMD --lent_records CMD [--seed N] [--seconds S]`
+//! `compare --PROGRAM CMD .. [--seed N] [--seconds S]`, a command for each of the product's programs.
 #![forbid(unsafe_code)]
 
 use compare::options::Options;

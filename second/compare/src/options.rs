@@ -1,7 +1,8 @@
 //! The command line.
 
 use crate::command::Command;
-use crate::kinds::KINDS;
+use crate::kinds::{Kind, KINDS};
+use std::collections::BTreeMap;
 use std::time::{Duration, SystemTime, UNIX_EPOCH};
 
 /// How long a run takes if nothing is said.
@@ -9,20 +10,20 @@ const SECONDS: u64 = 60;
 
 #[derive(Debug)]
 pub struct Options {
-    /// The product's program for each kind, if it is given.
-    pub commands: [Option<Command>; KINDS.len()],
+    /// The product's programs that are given, by their names.
+    pub commands: BTreeMap<&'static str, Command>,
     pub seed: u64,
     pub seconds: u64,
 }
 
 impl Options {
     pub const USAGE: &str = "usage: compare --plan CMD --calls CMD --host CMD --lent_records CMD \
-         [--seed N] [--seconds S]";
+         --sheet CMD --table CMD --office CMD [--seed N] [--seconds S]";
 
     /// Reads pairs of a name and its value.
     pub fn read(mut words: impl Iterator<Item = String>) -> Result<Self, String> {
         let mut options = Options {
-            commands: [const { None }; KINDS.len()],
+            commands: BTreeMap::new(),
             seed: clock(),
             seconds: SECONDS,
         };
@@ -30,8 +31,8 @@ impl Options {
             let value = words.next().ok_or(format!("{name} needs a value"))?;
             options.set(&name, &value)?;
         }
-        if options.commands.iter().all(Option::is_none) {
-            return Err("no program is given".to_string());
+        if !KINDS.iter().any(|kind| options.asks(kind)) {
+            return Err("no kind has its programs".to_string());
         }
         Ok(options)
     }
@@ -43,13 +44,20 @@ impl Options {
             "--seconds" => self.seconds = number(value)?,
             _ => {
                 let word = name.strip_prefix("--").unwrap_or("");
-                let kind = KINDS.iter().position(|kind| word == kind.name);
-                let kind = kind.ok_or(format!("there is no {name}"))?;
+                let mut programs = KINDS.iter().flat_map(|kind| kind.programs);
+                let program = programs.find(|&&program| word == program);
+                let program = program.ok_or(format!("there is no {name}"))?;
                 let command = Command::read(value).ok_or(format!("{name} is empty"))?;
-                self.commands[kind] = Some(command);
+                self.commands.insert(program, command);
             }
         }
         Ok(())
+    }
+
+    /// Whether all programs of a kind are given.
+    pub fn asks(&self, kind: &Kind) -> bool {
+        let mut programs = kind.programs.iter();
+        programs.all(|program| self.commands.contains_key(program))
     }
 
     pub fn time(&self) -> Duration {

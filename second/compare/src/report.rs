@@ -11,9 +11,10 @@ const ENOUGH_SECONDS: u64 = 20;
 /// Prints a run's counts and answers whether it holds.
 pub fn report(options: &Options, outcome: &Outcome) -> bool {
     for (index, kind) in KINDS.iter().enumerate() {
-        match options.commands[index] {
-            None => println!("{}: not asked, for no program is given", kind.name),
-            Some(_) => report_kind(kind, &outcome.tallies[index]),
+        if options.asks(kind) {
+            report_kind(kind, &outcome.tallies[index]);
+        } else {
+            println!("{}: not asked, for a program is not given", kind.name);
         }
     }
     if outcome.differences > 0 {
@@ -47,7 +48,7 @@ fn report_kind(kind: &Kind, tally: &Tally) {
 
 /// The refusals that no asked kind has met, though one can, and those that a kind must meet and has not.
 fn missing(options: &Options, outcome: &Outcome) -> Vec<String> {
-    let asked = |kind: &usize| options.commands[*kind].is_some();
+    let asked = |kind: &usize| options.asks(&KINDS[*kind]);
     let mut missing = Vec::new();
     for no in 1..=REFUSALS {
         let can = |kind: &usize| KINDS[*kind].refusals.contains(&no);

@@ -1,6 +1,5 @@
 //! Shares the time out over the kinds that are asked, on every processor there is.
 
-use crate::command::Command;
 use crate::kinds::KINDS;
 use crate::options::Options;
 use crate::random::Random;
@@ -53,8 +52,7 @@ impl Shared<'_> {
     /// Takes batch after batch; each kind is asked at least once, however short the time.
     fn work(&self) -> io::Result<()> {
         while let Some((kind, number)) = self.next() {
-            let command = self.options.commands[kind].as_ref();
-            self.ask(kind, number, command.expect("the kind is asked"))?;
+            self.ask(kind, number)?;
         }
         Ok(())
     }
@@ -65,7 +63,7 @@ impl Shared<'_> {
         if outcome.differences > 0 {
             return None;
         }
-        let asked = (0..KINDS.len()).filter(|&kind| self.options.commands[kind].is_some());
+        let asked = (0..KINDS.len()).filter(|&kind| self.options.asks(&KINDS[kind]));
         let kind = asked.min_by_key(|&kind| {
             let tally = &outcome.tallies[kind];
             (tally.batches > 0, tally.spent)
@@ -79,18 +77,22 @@ impl Shared<'_> {
     }
 
     /// Asks both the same and compares.
-    fn ask(&self, kind: usize, number: u64, command: &Command) -> io::Result<()> {
+    fn ask(&self, kind: usize, number: u64) -> io::Result<()> {
         let start = Instant::now();
         let mut random = Random::of_batch(self.options.seed, kind, number);
         let batch = (KINDS[kind].batch)(&mut random);
-        let said = command.ask(batch.input())?;
+        let program = KINDS[kind].programs[batch.program];
+        let command = &self.options.commands[program];
+        let said = batch.read(command.ask(batch.input())?);
         let found = Found::of(&batch, said);
         let mut outcome = self.outcome();
         match &found {
             None => outcome.tallies[kind].add(&batch),
             Some(found) => {
                 outcome.differences += 1;
-                save::save(self.options.seed, KINDS[kind].name, number, &batch, found)?;
+                let name = KINDS[kind].name;
+                save::save(self.options.seed, name, number, &batch, found)?;
+                println!("  it was asked of {program}");
             }
         }
         outcome.tallies[kind].spent += start.elapsed();

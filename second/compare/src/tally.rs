@@ -4,7 +4,7 @@ use crate::batch::Batch;
 use std::time::Duration;
 
 /// Refusal numbers end here.
-pub const REFUSALS: usize = 16;
+pub const REFUSALS: usize = 19;
 
 #[derive(Clone, Copy, Default)]
 pub struct Tally {

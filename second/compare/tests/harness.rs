@@ -1,11 +1,22 @@
 //! The whole program against stand-ins that answer right, and against ones that do not.
 #![forbid(unsafe_code)]
 
+use std::collections::BTreeSet;
+use std::ffi::OsStr;
 use std::fs;
 use std::path::{Path, PathBuf};
 use std::process::{Command, Output};
 
-const KINDS: [&str; 4] = ["plan", "host", "calls", "lent_records"];
+/// Each program, and the kind that asks it.
+const PROGRAMS: [[&str; 2]; 7] = [
+    ["plan", "plan"],
+    ["host", "host"],
+    ["calls", "calls"],
+    ["lent_records", "lent_records"],
+    ["sheet", "sheets"],
+    ["table", "sheets"],
+    ["office", "sheets"],
+];
 
 /// The example `stand_in`, which is built beside the program.
 fn stand_in() -> PathBuf {
@@ -22,7 +33,7 @@ fn folder(name: &str) -> PathBuf {
     folder
 }
 
-fn run(folder: &Path, words: &[&str]) -> Output {
+fn run<Word: AsRef<OsStr>>(folder: &Path, words: &[Word]) -> Output {
     let mut command = Command::new(env!("CARGO_BIN_EXE_compare"));
     let output = command.current_dir(folder).args(words).output();
     output.expect("the program starts")
@@ -32,55 +43,67 @@ fn text(output: &Output) -> String {
     String::from_utf8_lossy(&output.stdout).into_owned()
 }
 
+/// The options of all programs of a kind, one with a fault.
+fn options(kind: &str, faulty: &str, fault: &str) -> Vec<String> {
+    let mut words = Vec::new();
+    for [program, _] in PROGRAMS.iter().filter(|[_, asking]| *asking == kind) {
+        let fault = if *program == faulty { fault } else { "" };
+        words.push(format!("--{program}"));
+        words.push(format!("{} {program} {fault}", stand_in().display()));
+    }
+    words
+}
+
 #[test]
 fn right_answers() {
-    let stand_in = stand_in().display().to_string();
-    let commands = KINDS.map(|kind| (format!("--{kind}"), format!("{stand_in} {kind}")));
-    let mut words = vec!["--seed", "7", "--seconds", "3"];
-    for (name, command) in &commands {
-        words.extend([name.as_str(), command.as_str()]);
-    }
+    let kinds = BTreeSet::from(PROGRAMS.map(|[_, kind]| kind));
+    let mut words = ["--seed", "7", "--seconds", "3"]
+        .map(str::to_string)
+        .to_vec();
+    words.extend(kinds.iter().flat_map(|kind| options(kind, "", "")));
     let output = run(&folder("right"), &words);
     let said = text(&output);
     assert!(output.status.success(), "{said}");
     assert!(said.contains("seed 7, no difference"), "{said}");
-    for kind in KINDS {
+    for kind in kinds {
         assert!(said.contains(&format!("{kind}: refusals ")), "{said}");
     }
 }
 
-/// A fault in one kind is found, named and saved.
-fn finds(kind: &str, fault: &str) {
-    let folder = folder(&format!("{kind}-{fault}"));
-    let command = format!("{} {kind} {fault}", stand_in().display());
-    let name = format!("--{kind}");
-    let words = [&name, &command, "--seed", "9", "--seconds", "1"];
+/// A fault in one program is found, named and saved.
+fn finds(program: &str, kind: &str, fault: &str) {
+    let folder = folder(&format!("{program}-{fault}"));
+    let mut words = options(kind, program, fault);
+    words.extend(["--seed", "9", "--seconds", "1"].map(str::to_string));
     let output = run(&folder, &words);
     let said = text(&output);
-    assert_eq!(output.status.code(), Some(1), "{kind} {fault}: {said}");
+    assert_eq!(output.status.code(), Some(1), "{program} {fault}: {said}");
     let found = format!("DIFFERENCE: kind {kind}, seed 9, batch ");
     assert!(said.contains(&found), "{said}");
+    assert!(said.contains(&format!("asked of {program}\n")), "{said}");
     let saved = fs::read_dir(folder.join("target/compare")).expect("a folder of inputs");
     let saved = saved.map(|file| file.expect("a file").path());
     for right in saved.filter(|file| file.extension().is_some_and(|end| end == "second")) {
-        answers_again(kind, &right);
+        answers_again(program, &right);
     }
 }
 
 /// The saved case has, by itself, the answer that is saved beside it.
-fn answers_again(kind: &str, right: &Path) {
+fn answers_again(program: &str, right: &Path) {
     let input = fs::File::open(right.with_extension("in")).expect("the input is there");
     let right = fs::read(right).expect("the answer can be read");
-    let answer = Command::new(stand_in()).arg(kind).stdin(input).output();
+    let answer = Command::new(stand_in()).arg(program).stdin(input).output();
     let answer = answer.expect("the stand-in starts").stdout;
-    assert!(!answer.is_empty() && answer.ends_with(&right), "{kind}");
+    // Those that a case stands on are answered before it; what is read in an answer stands after it.
+    let alike = answer.ends_with(&right) || right.starts_with(&answer);
+    assert!(!answer.is_empty() && alike, "{program}");
 }
 
 #[test]
 fn wrong_answers() {
-    for kind in KINDS {
+    for [program, kind] in PROGRAMS {
         for fault in ["changed", "short", "long", "silent", "failed"] {
-            finds(kind, fault);
+            finds(program, kind, fault);
         }
     }
 }
@@ -96,7 +119,7 @@ fn wrong_answers_of_lent_records() {
         "old_record",
         "past_listing",
     ] {
-        finds("lent_records", fault);
+        finds("lent_records", "lent_records", fault);
     }
 }
 
@@ -108,6 +131,7 @@ fn words_that_are_wrong() {
         &["--seed", "1"],
         &["--plan"],
         &["--plan", " "],
+        &["--sheet", "x", "--table", "x"],
         &["plan", "x"],
         &["--other", "x"],
         &["--plan", "x", "--seed", "y"],
@@ -122,7 +146,7 @@ fn what_is_not_asked_is_said() {
     let plan = format!("{} plan", stand_in().display());
     let words = ["--plan", &plan, "--seconds", "0"];
     let said = text(&run(&folder("not-asked"), &words));
-    for kind in ["host", "calls", "lent_records"] {
+    for kind in ["host", "calls", "lent_records", "sheets"] {
         assert!(said.contains(&format!("{kind}: not asked")), "{said}");
     }
 }

@@ -8,8 +8,12 @@ use compare::report::report;
 use compare::run::Outcome;
 
 fn options(seconds: u64) -> Options {
+    let command = Command::read("x").expect("a command");
+    let programs = KINDS.iter().flat_map(|kind| kind.programs);
     Options {
-        commands: [const { None }; KINDS.len()].map(|_: Option<Command>| Command::read("x")),
+        commands: programs
+            .map(|&program| (program, command.clone()))
+            .collect(),
         seed: 1,
         seconds,
     }
@@ -31,7 +35,7 @@ fn all_met() {
 
 #[test]
 fn a_refusal_that_no_kind_meets() {
-    for no in 1..=16 {
+    for no in 1..=19 {
         let mut outcome = met();
         for tally in &mut outcome.tallies {
             tally.met[no] = 0;
@@ -48,6 +52,7 @@ fn a_refusal_that_one_kind_does_not_meet() {
         ("host", &false),
         ("calls", &true),
         ("lent_records", &false),
+        ("sheets", &true),
     ] {
         let place = KINDS.iter().position(|known| known.name == kind);
         let place = place.expect("there is such a kind");

@@ -14,5 +14,11 @@ pub const CLOCK: u64 = 1_000_000_000_000;
 pub const RUNS: usize = 8;
 /// Most bytes of a program's text.
 pub const TEXT: usize = 4_096;
+/// Most bytes of an office's sheet.
+pub const SHEET: usize = 4_096;
+/// Most letters of a job's name.
+pub const NAME: usize = 12;
+/// Longest tick, in nanoseconds.
+pub const TICK: u64 = 1_000_000;
 /// Most bytes of a player's input.
 pub const CALLS: usize = 65_536;

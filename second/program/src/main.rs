@@ -1,9 +1,11 @@
-//! `second plan` lists a table, `second calls` plays calls: standard input to standard output.
+//! `second PROGRAM` answers as the product's program of that name: standard input to standard output.
 #![forbid(unsafe_code)]
 
-use second::{player, program};
+use second::{office, player, program, sheets};
 use std::io::{self, Read, Write};
 use std::process::ExitCode;
+
+const USAGE: &str = "usage: second plan | calls | sheet | table | office";
 
 fn main() -> ExitCode {
     let words: Vec<String> = std::env::args().skip(1).collect();
@@ -11,7 +13,10 @@ fn main() -> ExitCode {
     let done = match words[..] {
         ["plan"] => answer(program::program),
         ["calls"] => answer(player::calls),
-        _ => Err(io::Error::other("usage: second plan | second calls")),
+        ["sheet"] => answer(sheets::sheet),
+        ["table"] => answer(sheets::table),
+        ["office"] => answer(office::office),
+        _ => Err(io::Error::other(USAGE)),
     };
     match done {
         Ok(()) => ExitCode::SUCCESS,

@@ -33,7 +33,7 @@ pub fn calls(input: &[u8]) -> Vec<u8> {
     };
     let mut record = match Record::fresh(play.cores, &play.table) {
         Ok(record) => record,
-        Err(refusal) => return format!("{refusal}\n").into_bytes(),
+        Err(refusal) => return refusal.line(),
     };
     let mut answers = String::new();
     for call in &play.calls {

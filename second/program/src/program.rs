@@ -13,7 +13,7 @@ pub fn program(text: &[u8]) -> Vec<u8> {
     };
     match plan(cores, &table) {
         Ok(plan) => listing::of_plan(&plan),
-        Err(refusal) => format!("{refusal}\n").into_bytes(),
+        Err(refusal) => refusal.line(),
     }
 }
 

@@ -1,4 +1,4 @@
-//! Refusals: their numbers and the task they name.
+//! Refusals: their numbers, the task they name and the line that is printed.
 
 use std::fmt;
 
@@ -18,6 +18,9 @@ pub const NO_SUCH_CORE: u32 = 13;
 pub const BUFFER_SHORT: u32 = 14;
 pub const UNSOUND: u32 = 15;
 pub const UNREADABLE: u32 = 16;
+pub const SHEET_LINE: u32 = 17;
+pub const SAME_NAME: u32 = 18;
+pub const TICK_LENGTH: u32 = 19;
 
 /// Planning's refusal: its number and the task it names (from 1), or 0.
 #[derive(Clone, Copy, Debug, PartialEq, Eq)]
@@ -30,6 +33,11 @@ impl Refusal {
     /// A refusal that names no task.
     pub fn plain(no: u32) -> Self {
         Refusal { no, task: 0 }
+    }
+
+    /// What a program writes for it.
+    pub fn line(&self) -> Vec<u8> {
+        format!("{self}\n").into_bytes()
     }
 }
 

@@ -1,4 +1,4 @@
-//! Reading a table's text.
+//! A table's text: reading it and writing it.
 
 use crate::limits::TEXT;
 
@@ -20,6 +20,21 @@ pub fn read_text(text: &[u8]) -> Result<(u32, Vec<u32>), usize> {
         table.push(period);
     }
     Ok((cores, table))
+}
+
+/// The text of a core count and a table.
+pub fn write_text(cores: u32, table: &[u32]) -> Vec<u8> {
+    let mut text = format!("{cores}\n");
+    for task in table.chunks_exact(2) {
+        text += &format!("{} {}\n", task[0], task[1]);
+    }
+    text.into_bytes()
+}
+
+/// The first line without its newline, and what follows; None where no line is ended.
+pub fn split_line(text: &[u8]) -> Option<(&[u8], &[u8])> {
+    let end = text.iter().position(|&byte| byte == b'\n')?;
+    Some((&text[..end], &text[end + 1..]))
 }
 
 /// The lines without their newlines; None for a last line that has none.
@@ -45,7 +60,7 @@ pub fn read_digits(digits: &[u8], most: usize) -> Option<u64> {
 }
 
 /// A number below 2^32.
-fn read_number(digits: &[u8]) -> Option<u32> {
+pub fn read_number(digits: &[u8]) -> Option<u32> {
     u32::try_from(read_digits(digits, DIGITS)?).ok()
 }
 

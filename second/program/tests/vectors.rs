@@ -7,7 +7,7 @@ use std::path::{Path, PathBuf};
 /// The folder of examples, with the reason if it is not given.
 fn folder(part: &str) -> PathBuf {
     let folder = std::env::var_os("VECTORS")
-        .expect("set VECTORS to the folder that holds the example folders plan and calls");
+        .expect("set VECTORS to the folder that holds the folders of examples");
     Path::new(&folder).join(part)
 }
 
@@ -36,4 +36,11 @@ fn plans() {
 #[test]
 fn calls() {
     compare("calls", second::player::calls);
+}
+
+#[test]
+fn sheets() {
+    compare("sheet", second::sheets::sheet);
+    compare("table", second::sheets::table);
+    compare("office", second::office::office);
 }

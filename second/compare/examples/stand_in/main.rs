@@ -1,4 +1,4 @@
-//! Stands in for the product's programs in the tests: `stand_in KIND [FAULT]` answers as the second program would.
+//! Stands in for the product's programs in the tests: `stand_in PROGRAM [FAULT]` answers as the second program would.
 #![forbid(unsafe_code)]
 
 mod host;
@@ -18,6 +18,9 @@ fn main() -> ExitCode {
         "plan" => second::program::program(&input),
         "calls" => second::player::calls(&input),
         "host" => host::answers(&input),
+        "sheet" => second::sheets::sheet(&input),
+        "table" => second::sheets::table(&input),
+        "office" => second::office::office(&input),
         "lent_records" => lent_records::answers(&input, fault),
         _ => return ExitCode::from(2),
     };

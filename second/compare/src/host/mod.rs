@@ -15,9 +15,8 @@ const FRAMES: usize = 200;
 /// Frames, each with both calls' answers.
 pub fn batch(random: &mut Random) -> Batch {
     Batch {
-        head: Vec::new(),
         cases: (0..FRAMES).map(|_| case(random)).collect(),
-        in_turn: false,
+        ..Batch::default()
     }
 }
 

@@ -17,7 +17,7 @@ pub fn batch(random: &mut Random) -> Batch {
     Batch {
         cases: cases.collect(),
         head: held.bytes,
-        in_turn: false,
+        ..Batch::default()
     }
 }
 

@@ -18,8 +18,8 @@ pub fn batch(random: &mut Random) -> Batch {
     let mut pace = Pace::new(random, held.record.common);
     let mut batch = Batch {
         head: held.bytes.clone(),
-        cases: Vec::new(),
         in_turn: true,
+        ..Batch::default()
     };
     for _ in 0..QUESTIONS {
         let question = next(random, &held, &pace);
