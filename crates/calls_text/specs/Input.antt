@@ -1,11 +1,11 @@
 -- The player's input: a table's text, a line `calls`, then one call to a line, at most 65,536 bytes.
-use Prim.Native.Nat.{ℕ, zero, suc, _+_, _-_, _/_}
-use mathlib.Core.Bool.{Bool, cond, _&&_, _||_}
+use Prim.Native.Nat.{ℕ, zero, suc, _+_, _/_}
+use mathlib.Core.Bool.{cond}
 use mathlib.Core.List.{List, [], _∷_}
 use lib.Dec.{ltb, eqb}
-use lib.ListN.{length, getD, take, drop}
-use Rattle.writing.specs.Ascii.{ascii, newline}
-use Rattle.scanning.specs.Word.{starts}
+use lib.ListN.{length, take}
+use Rattle.writing.specs.Ascii.{ascii}
+use Rattle.line_place.specs.Place.{linePlace}
 use Rattle.scanning.specs.Lines.{unreadableFrom}
 use Rattle.table_text.specs.Text.{Said, says, unreadable, textOf}
 use Rattle.dispatch.specs.declared.call.Call.{Call}
@@ -22,22 +22,9 @@ pub data InputSays : Type 0 where
   plays : ℕ → List ℕ → ℕ → InputSays
   unplayable : ℕ → InputSays
 
--- a line starts at a place: at the first, or after a newline
-abbrev pub lineStarts : List ℕ → ℕ → Bool
-lineStarts s at = eqb at 0 || eqb (getD s (at - 1) 0) newline
-
--- the line `calls` stands at a place
-unfoldable pub callsHere : List ℕ → ℕ → Bool
-callsHere s at = lineStarts s at && starts (ascii "calls\n") (drop at s)
-
--- the first of n places, from one on, that passes a test; the place after them if none does
-unfoldable pub firstPlace : (ℕ → Bool) → ℕ → ℕ → ℕ
-firstPlace f zero at = at
-firstPlace f (suc n) at = cond (f at) at (firstPlace f n (at + 1))
-
 -- where the first line `calls` stands, and the text's end if there is none
 unfoldable pub callsPlace : List ℕ → ℕ
-callsPlace s = firstPlace (callsHere s) (length s) 0
+callsPlace s = linePlace (ascii "calls\n") s
 
 -- the first unreadable one of the calls from a place on, where this line starts, and 0 if there is none
 abbrev pub badCall : List ℕ → ℕ → ℕ → ℕ

@@ -32,7 +32,7 @@ fn unlisted(no: u32) -> Listed
 }
 
 // A sound plan's listing. Where the buffer may be too short, a first run on one of one byte finds the length.
-fn list_plan(plan: Plan, buf: &mut [u8]) -> Listed
+pub fn list_plan(plan: Plan, buf: &mut [u8]) -> Listed
     requires { ⌜ planSound plan ≡ true ⌝ }
     ensures { λ r. ⌜ r ≡ planListed plan (length (now (buf .entry))) ⌝ }
     ensures { λ r. ⌜ now (buf .exit) ≡ planAfter plan (now (buf .entry)) ⌝ }

@@ -1,16 +1,17 @@
 -- The equations of a line, as the code meets them; how many bytes it has at least, and that its numbers are below the bound.
-use Prim.Native.Nat.{ℕ, _+_, _*_, _≤_, _<_}
-use mathlib.Core.Path.{_≡_, refl}
+use Prim.Native.Nat.{ℕ, _+_, _-_, _*_, _≤_, _<_}
+use mathlib.Core.Path.{_≡_, refl, sym, ap, _∙_}
 use mathlib.Core.List.{List, [], _∷_}
 use native.Mathlib.Omega.{arith}
 use native.Mathlib.Decide.{decLt}
-use borrow.Author.Tests.{eq-eqb, ne-eqb, ltb-true}
+use borrow.Author.Tests.{eq-eqb, ne-eqb, eqb-true, ltb-true}
 use lib.Dec.{ltb, eqb}
-use lib.ListN.{length, getD, drop, List·getD-eq-default}
+use lib.ListN.{length, getD, take, drop, length-drop, List·getD-eq-default}
+use lib.Seq.{take-length}
 use Rattle.lists.proofs.Tests.{by-cases}
 use Rattle.writing.specs.Ascii.{blank, newline}
 use Rattle.scanning.specs.Number.{digitOf, digitsOf, firstOf, numberAt}
-use Rattle.scanning.specs.Line.{followedBy, fieldAt, secondAfter, firstAfter, pairAt}
+use Rattle.scanning.specs.Line.{followedBy, fieldAt, secondAfter, firstAfter, pairBy, pairAt}
 use Rattle.scanning.specs.declared.number.Number.{Number}
 use Rattle.scanning.specs.declared.number.Number.the-variants.{Value, NoNumber}
 use Rattle.scanning.specs.declared.line.Pair.the-variants.{Two, NoPair}
@@ -80,6 +81,22 @@ pub field-kept : (b : ℕ) (s : List ℕ) (x at v a : ℕ) → 10 ≤ b → fiel
 unfolding fieldAt numberAt
 field-kept b s x at v a h e = followed-kept b s x (numberAt b s at) at v a (λ w p q. first-kept b (drop at s) at w p h q) e
 
+-- the byte after a number stands within the text, and so does what follows
+pub field-ends : (b : ℕ) (s : List ℕ) (e at v a : ℕ) → 0 < e → fieldAt b s e at ≡ Value v a → a ≤ length s
+unfolding fieldAt followedBy
+field-ends b s e at v a h = go (numberAt b s at)
+  where
+    go : (n : Number) → followedBy s e n ≡ Value v a → a ≤ length s
+    go (Value w p) f =
+        by-cases (eqb (getD s p 0) e)
+        (λ k. let g = rw k at f in let z : p + 1 ≡ a = cc in omega (arith, inside s p e h (eqb-true (getD s p 0) e k)))
+        (λ k. no-value (rw k at f))
+    go NoNumber f = no-value f
+
+-- what is left of a text from a place on
+pub rest-is : (s : List ℕ) (at : ℕ) → take (length s - at) (drop at s) ≡ drop at s
+rest-is s at = ap (λ (k : ℕ). take k (drop at s)) (sym (length-drop at s)) ∙ take-length (drop at s)
+
 -- two numbers on a line are four bytes or more
 abbrev KeptPair : ℕ → ℕ → ℕ → ℕ → ℕ → Type 0
 KeptPair b at x y a = (x < b) × (y < b) × (at + 4 ≤ a)
@@ -102,6 +119,10 @@ first-of-kept b s (Value w p) at x y a h f e =
     second-kept b w (fieldAt b s newline p) at p x y a (f w p refl) (λ v q k. field-kept b s newline p v q h k) e
 first-of-kept b s NoNumber at x y a h f e = no-pair e
 
+pub pair-by-kept : (b e : ℕ) (s : List ℕ) (at x y a : ℕ) → 10 ≤ b → pairBy b e s at ≡ Two x y a → (x < b) × (y < b) × (at + 4 ≤ a)
+pair-by-kept b e s at x y a h p = first-of-kept b s (fieldAt b s e at) at x y a h (λ w q r. field-kept b s e at w q h r) p
+
+-- with a blank between too
 pub pair-kept : (b : ℕ) (s : List ℕ) (at x y a : ℕ) → 10 ≤ b → pairAt b s at ≡ Two x y a → (x < b) × (y < b) × (at + 4 ≤ a)
 unfolding pairAt
-pair-kept b s at x y a h e = first-of-kept b s (fieldAt b s blank at) at x y a h (λ w p q. field-kept b s blank at w p h q) e
+pair-kept b s at x y a h e = pair-by-kept b blank s at x y a h e

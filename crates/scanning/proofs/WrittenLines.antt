@@ -12,7 +12,7 @@ use Rattle.lists.proofs.Tests.{by-cases}
 use Rattle.writing.specs.Ascii.{blank, newline}
 use Rattle.writing.specs.Decimal.{decimalOf}
 use Rattle.scanning.specs.Number.{numberAt}
-use Rattle.scanning.specs.Line.{followedBy, fieldAt, secondAfter, firstAfter, pairAt}
+use Rattle.scanning.specs.Line.{followedBy, fieldAt, secondAfter, firstAfter, pairBy, pairAt}
 use Rattle.scanning.proofs.Fields.{inside, field-is, no-value, no-pair}
 use Rattle.scanning.proofs.Written.{NoDigit, number-written, number-read}
 use Rattle.scanning.specs.declared.number.Number.{Number}
@@ -49,20 +49,20 @@ field-read b s e at v a h p = go (numberAt b s at) refl
         (λ k. no-value (rw k at f))
     go NoNumber r f = no-value f
 
--- two numbers that are written at a place with a blank between and a newline after
-pub pair-written : (b : ℕ) (s : List ℕ) (at x y : ℕ) (rest : List ℕ) → x < b → y < b → drop at s ≡ decimalOf x ++ blank ∷ (decimalOf y ++ newline ∷ rest)
-    → (a : ℕ) × (pairAt b s at ≡ Two x y a) × (drop a s ≡ rest)
-unfolding pairAt firstAfter secondAfter
-pair-written b s at x y rest h k p =
-    let f = field-written b s blank at x (decimalOf y ++ newline ∷ rest) h (inl (omega arith)) p in
+-- two numbers that are written at a place with a byte between, which is no digit, and a newline after
+pub pair-by-written : (b e : ℕ) (s : List ℕ) (at x y : ℕ) (rest : List ℕ) → NoDigit e → x < b → y < b
+    → drop at s ≡ decimalOf x ++ e ∷ (decimalOf y ++ newline ∷ rest) → (a : ℕ) × (pairBy b e s at ≡ Two x y a) × (drop a s ≡ rest)
+unfolding firstAfter secondAfter
+pair-by-written b e s at x y rest stop h k p =
+    let f = field-written b s e at x (decimalOf y ++ newline ∷ rest) h stop p in
     let g = field-written b s newline (at + length (decimalOf x) + 1) y rest k (inl (omega arith)) (f .1) in
     (at + length (decimalOf x) + 1 + length (decimalOf y) + 1, rw (f .0, g .0), g .1)
 
 -- two that were read are written there
-pub pair-read : (b : ℕ) (s : List ℕ) (at x y a : ℕ) → 10 ≤ b → pairAt b s at ≡ Two x y a
-    → drop at s ≡ decimalOf x ++ blank ∷ (decimalOf y ++ newline ∷ drop a s)
-unfolding pairAt firstAfter secondAfter
-pair-read b s at x y a h = go (fieldAt b s blank at) refl
+pub pair-by-read : (b e : ℕ) (s : List ℕ) (at x y a : ℕ) → 10 ≤ b → 0 < e → pairBy b e s at ≡ Two x y a
+    → drop at s ≡ decimalOf x ++ e ∷ (decimalOf y ++ newline ∷ drop a s)
+unfolding firstAfter secondAfter
+pair-by-read b e s at x y a h pos = go (fieldAt b s e at) refl
   where
     second : (u p : ℕ) (n : Number) → fieldAt b s newline p ≡ n → secondAfter u n ≡ Two x y a → (u ≡ x) × (drop p s ≡ decimalOf y ++ newline ∷ drop a s)
     second u p (Value w q) r f =
@@ -70,8 +70,20 @@ pair-read b s at x y a h = go (fieldAt b s blank at) refl
         (i, field-read b s newline p w q h (omega arith) r .1 ∙ ap₂ (λ (v k : ℕ). decimalOf v ++ newline ∷ drop k s) j z)
     second u p NoNumber r f = no-pair f
 
-    go : (n : Number) → fieldAt b s blank at ≡ n → firstAfter b s n ≡ Two x y a → drop at s ≡ decimalOf x ++ blank ∷ (decimalOf y ++ newline ∷ drop a s)
+    go : (n : Number) → fieldAt b s e at ≡ n → firstAfter b s n ≡ Two x y a → drop at s ≡ decimalOf x ++ e ∷ (decimalOf y ++ newline ∷ drop a s)
     go (Value u p) r f =
         let z = second u p (fieldAt b s newline p) refl f in
-        field-read b s blank at u p h (omega arith) r .1 ∙ ap₂ (λ (v : ℕ) (l : List ℕ). decimalOf v ++ blank ∷ l) (z .0) (z .1)
+        field-read b s e at u p h pos r .1 ∙ ap₂ (λ (v : ℕ) (l : List ℕ). decimalOf v ++ e ∷ l) (z .0) (z .1)
     go NoNumber r f = no-pair f
+
+-- two with a blank between and a newline after
+pub pair-written : (b : ℕ) (s : List ℕ) (at x y : ℕ) (rest : List ℕ) → x < b → y < b → drop at s ≡ decimalOf x ++ blank ∷ (decimalOf y ++ newline ∷ rest)
+    → (a : ℕ) × (pairAt b s at ≡ Two x y a) × (drop a s ≡ rest)
+unfolding pairAt
+pair-written b s at x y rest h k p = pair-by-written b blank s at x y rest (inl (omega arith)) h k p
+
+-- two that were read so are written there
+pub pair-read : (b : ℕ) (s : List ℕ) (at x y a : ℕ) → 10 ≤ b → pairAt b s at ≡ Two x y a
+    → drop at s ≡ decimalOf x ++ blank ∷ (decimalOf y ++ newline ∷ drop a s)
+unfolding pairAt
+pair-read b s at x y a h e = pair-by-read b blank s at x y a h (omega arith) e

@@ -1,4 +1,4 @@
--- A line of a text: a number, or two with one blank between, ended by a newline.
+-- A line of a text: a number, or two with one byte between, ended by a newline.
 use Prim.Native.Nat.{ℕ, _+_}
 use mathlib.Core.Bool.{cond}
 use mathlib.Core.List.{List}
@@ -30,6 +30,10 @@ unfoldable pub firstAfter : ℕ → List ℕ → Number → Pair
 firstAfter b s (Value x at) = secondAfter x (fieldAt b s newline at)
 firstAfter b s NoNumber = NoPair
 
--- the two numbers at a place, each below b, to the end of their line, with the place after its newline
+-- the two numbers at a place with the byte e between, each below b, to the end of their line, with the place after its newline
+abbrev pub pairBy : ℕ → ℕ → List ℕ → ℕ → Pair
+pairBy b e s at = firstAfter b s (fieldAt b s e at)
+
+-- the two numbers at a place with one blank between
 unfoldable pub pairAt : ℕ → List ℕ → ℕ → Pair
-pairAt b s at = firstAfter b s (fieldAt b s blank at)
+pairAt b s at = pairBy b blank s at

@@ -8,7 +8,7 @@ ghost use Prim.Native.Nat.{_<_};
 ghost use lib.ListN.{getD};
 ghost use Rattle.writing.specs.Ascii.{newline};
 ghost use Rattle.scanning.specs.Inner.{Bound};
-ghost use Rattle.scanning.specs.Line.{fieldAt, secondAfter, pairAt};
+ghost use Rattle.scanning.specs.Line.{fieldAt, secondAfter, pairBy, pairAt};
 
 // Two numbers, and the place after their line.
 pub enum Pair {
@@ -41,12 +41,20 @@ pub fn read_field(text: &[u8], at: usize, bound: u64, end: u8) -> Number
     }
 }
 
-// The two numbers at a place, to the end of their line.
+// The two numbers at a place with one blank between, to the end of their line.
 pub fn read_pair(text: &[u8], at: usize, bound: u64) -> Pair
     requires { ⌜ Bound bound ⌝ }
     ensures { λ r. ⌜ r ≡ pairAt bound (now (text .entry)) at ⌝ }
 {
-    match read_field(text, at, bound, BLANK) {
+    read_pair_by(text, at, bound, BLANK)
+}
+
+// The two numbers at a place with a byte between, to the end of their line.
+pub fn read_pair_by(text: &[u8], at: usize, bound: u64, between: u8) -> Pair
+    requires { ⌜ Bound bound × (0 < between) ⌝ }
+    ensures { λ r. ⌜ r ≡ pairBy bound between (now (text .entry)) at ⌝ }
+{
+    match read_field(text, at, bound, between) {
         Number::NoNumber => Pair::NoPair,
         Number::Value(x, a) => read_second(text, a, bound, x),
     }

@@ -11,7 +11,7 @@ use Rattle.table_text.proofs.Tables.{task-kept, numbers-none, numbers-l
 use Rattle.scanning.specs.declared.line.Pair.the-variants.{Two, NoPair}
 
 -- two stores, and then the later numbers
-stored-two : (l : List ℕ) (i c t : ℕ) (r : List ℕ) → sets l (2 * i) (c ∷ t ∷ r) ≡ sets (set (set l (2 * i) c) (2 * i + 1) t) (2 * (i + 1)) r
+pub stored-two : (l : List ℕ) (i c t : ℕ) (r : List ℕ) → sets l (2 * i) (c ∷ t ∷ r) ≡ sets (set (set l (2 * i) c) (2 * i + 1) t) (2 * (i + 1)) r
 stored-two l i c t r =
     let e : suc (2 * i) ≡ 2 * i + 1 = omega arith in
     let f : suc (suc (2 * i)) ≡ 2 * (i + 1) = omega arith in

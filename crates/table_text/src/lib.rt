@@ -1,11 +1,12 @@
 // Reading the program's text: a core count and a table, or the line that cannot be read.
+use lent_numbers::store;
 use scanning::line::Pair;
 use scanning::line::read_field;
 use scanning::line::read_pair;
 use scanning::number::Number;
 use writing::NEWLINE;
 ghost use mathlib.Core.Path.{_≡_};
-ghost use lib.ListN.{length, set};
+ghost use lib.ListN.{length};
 ghost use lib.Seq.{sets};
 ghost use Rattle.table_text.specs.Text.{textOf, tableFrom, badTask, numbersFrom, tableSaid, answerOf};
 
@@ -40,15 +41,6 @@ fn first_unreadable(text: &[u8], from: usize) -> usize
         }
     }
     0
-}
-
-// Stores a number where the table reaches.
-fn store(table: &mut [u32], at: usize, x: u32)
-    ensures { λ _. ⌜ now (table .exit) ≡ set (now (table .entry)) at x ⌝ }
-{
-    if at < table.len() {
-        table[at] = x;
-    }
 }
 
 // Stores the numbers of the lines from a place on, and answers how many they are.

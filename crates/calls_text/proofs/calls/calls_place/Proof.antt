@@ -1,54 +1,18 @@
 -- `calls_text::calls::calls_place` meets its contract.
-use Prim.Native.Nat.{_-_}
-use mathlib.Core.Path.{sym, _∙_}
-use lib.ListN.{length}
-use Rattle.calls_text.proofs.Places.{Sought, first, found, passed, none}
 use borrow.Author.Needs.{needs}
--- `calls_text::calls::calls_place` meets its contract.
+use Rattle.calls_text.specs.Input.{callsPlace}
 use Rattle.calls_text.proofs.calls.calls_place.Statement.{statement}
 use Rattle.calls_text.proofs.calls.calls_place.Tie as tie
 
-abbrev Inv-loop : tie.InvT-loop
-Inv-loop text at₀ at = Sought text at
+slice-aggregate-line-place : tie.Need-slice-aggregate-line-place
+slice-aggregate-line-place c = search needs
 
-abbrev μ-loop : tie.MeasureT-loop
-μ-loop text at₀ at = length text - at
+line-place-requires : tie.Need-line-place-requires
+line-place-requires c κs = search needs
 
-loop-holds : tie.Need-loop-holds Inv-loop μ-loop
-loop-holds c = first _
-
-calls-here-requires : tie.Need-calls-here-requires Inv-loop μ-loop
-calls-here-requires c κs = search needs
-
-returns : tie.Need-returns Inv-loop μ-loop
-returns c =
-    let l = c .before .before .before in
-    (found _ _ (l .loop .inv) (c .before .before .loop-test .taken) (sym (c .before .calls-here .ensures) ∙ c .if1 .taken), search needs)
-
-add-at : tie.Need-add-at Inv-loop μ-loop
-add-at c = search needs
-
-loop-less : tie.Need-loop-less Inv-loop μ-loop
-loop-less c = search needs
-
-loop-again : tie.Need-loop-again Inv-loop μ-loop
-loop-again c =
-    let l = c .before .before .before in
-    passed _ _ (l .loop .inv) (c .before .before .loop-test .taken) (sym (c .before .calls-here .ensures) ∙ c .if1 .left)
-
-returns-2 : tie.Need-returns-2 Inv-loop μ-loop
-returns-2 c = (none _ _ (c .before .loop .inv) (c .loop-test .left), c .before .loop .inv .within)
+returns : tie.Need-returns
+unfolding callsPlace
+returns c = c .line-place .ensures
 
 pub calls-place-spec : {M : Type 1} → statement M
-calls-place-spec =
-    tie.close
-    (tie.spec
-    Inv-loop
-    μ-loop
-    loop-holds
-    calls-here-requires
-    returns
-    add-at
-    loop-less
-    loop-again
-    returns-2)
+calls-place-spec = tie.close (tie.spec slice-aggregate-line-place line-place-requires returns)
