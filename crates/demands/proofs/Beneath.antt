@@ -20,3 +20,4 @@ pub mod RefusalLines
 pub mod SaysTable
 pub mod Program
 pub mod HostCalls
+pub mod Sheets

@@ -8,3 +8,4 @@ pub mod Runs
 pub mod Demand3
 pub mod Examples
 pub mod Host
+pub mod Office

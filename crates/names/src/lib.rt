@@ -1,0 +1,2 @@
+// Names of jobs: 1 to 12 small letters.
+pub mod name;

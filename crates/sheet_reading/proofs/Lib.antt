@@ -1,0 +1,5 @@
+pub mod Held
+pub mod Plans
+pub mod Taken
+pub mod Words
+pub mod Settled

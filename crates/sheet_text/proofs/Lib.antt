@@ -1,0 +1,10 @@
+pub mod Jobs
+pub mod Stored
+pub mod Naming
+pub mod Written
+pub mod Says
+pub mod Cases
+pub mod Fits
+pub mod Answered
+pub mod EverySheet
+pub mod Settled

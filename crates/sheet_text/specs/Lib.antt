@@ -1,0 +1,4 @@
+pub mod Job
+pub mod Sheet
+pub mod Grammar
+pub mod Whole

@@ -1,0 +1,2 @@
+pub mod NoneLost
+pub mod Settled
