@@ -30,10 +30,10 @@ pub begun : (ls : List Line) (n at : ℕ) (l : List ℕ) → Tabling ls n at l l
 begun ls n at l = record { done = []; wrote = none l at; left = refl; short = omega arith; within = omega arith }
 
 module _ {ls : List Line} {n at : ℕ} {before now : List ℕ} {i end : ℕ} (h : Tabling ls n at before now i end) where
-  -- one more
-  pub onward : {l : List ℕ} {k : ℕ} → i < n → n ≤ length ls
-      → Wrote now end (taskWritten (getD ls i noLine .cost .0) (getD ls i noLine .period .0)) l k → k ≤ end + 42 → Tabling ls n at before l (i + 1) k
-  onward {l} {k} p q w b =
+  -- one more, whose numbers are those of its line
+  pub onward : {l : List ℕ} {k x y : ℕ} → i < n → n ≤ length ls → Wrote now end (taskWritten x y) l k → k ≤ end + 42
+      → x ≡ getD ls i noLine .cost .0 → y ≡ getD ls i noLine .period .0 → Tabling ls n at before l (i + 1) k
+  onward {l} {k} p q w b e f =
       let line = getD ls i noLine in
       let r : drop i (take n ls) ≡ line ∷ drop (i + 1) (take n ls) =
       drop-cons (take n ls) i noLine (omega (arith, length-take n ls))
@@ -41,7 +41,7 @@ module _ {ls : List Line} {n at : ℕ} {before now : List ℕ} {i end : ℕ} (h 
       let task = taskWritten (line .cost .0) (line .period .0) in
       record {
         done = h .done ++ task;
-        wrote = then (h .wrote) w;
+        wrote = then (h .wrote) (recast (ap₂ taskWritten e f) w);
         left = append-assoc (h .done) task (tasksWritten (numbersOf (linesFrom ls n (i + 1))))
             ∙ ap (λ (x : List Line). h .done ++ tasksWritten (numbersOf x)) (sym r) ∙ h .left;
         short = omega (arith, h .short, b);

@@ -1,5 +1,6 @@
 -- `sheet_answer::table::put_tasks` meets its contract.
 use Prim.Native.Nat.{_-_}
+use mathlib.Core.Path.{refl}
 use native.Mathlib.Omega.{arith}
 use borrow.Author.Needs.{needs}
 use Rattle.writing.proofs.Wrote.{kept}
@@ -38,7 +39,7 @@ loop-again c =
     let w = c .before .before in
     let n = w .before .before .before .before .before in
     let f = n .before .before .before .before .pre .1 in
-    onward (n .before .loop .inv) (n .loop-test .taken) (omega (arith, f .count, f .lines)) (w .put-task .ensures .0) (w .put-task .ensures .1)
+    onward (n .before .loop .inv) (n .loop-test .taken) (omega (arith, f .count, f .lines)) (w .put-task .ensures .0) (w .put-task .ensures .1) refl refl
 
 same-length : tie.Need-same-length Inv-loop μ-loop
 same-length c = kept (c .before .loop .inv .wrote)
