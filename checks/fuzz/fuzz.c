@@ -42,7 +42,7 @@ static void demand(int holds, const char *what)
     abort();
 }
 
-/* A call's time: soon after the clock, or where a refusal or a deadline is near, or any. */
+/* A call's time: soon after the clock, or where a refusal, a deadline or the release of a held run is near, or any. */
 static uint64_t time_of(uint8_t how, uint64_t task)
 {
     size_t i = (size_t)(task - 1) % YAGOMILA_TASKS_MAX;
@@ -65,6 +65,12 @@ static uint64_t time_of(uint8_t how, uint64_t task)
     case 8:
         bytes(&time, sizeof time);
         return time;
+    case 9:
+        return held->tasks[i].deadlines[0] - held->plan.lines[i].period;
+    case 10:
+        return held->tasks[i].deadlines[0] - held->plan.lines[i].period - 1;
+    case 11:
+        return CLOCK_MOST - held->plan.lines[i].period;
     default:
         return held->clock + byte();
     }
@@ -80,6 +86,7 @@ static int64_t make(const char *name, int64_t (*call)(const struct side *))
         printf("%s %" PRId64 " %016" PRIx64 "\n", name, answer, checksum());
     demand(answer >= 0 || same_all(), "a byte changed on a refusal");
     demand(answer != -YAGOMILA_REFUSED_UNSOUND || !honest, "15 after start and calls alone");
+    demand(answer != -9, "9, which is never given");
     if (oracle != NULL) {
         demand(call(oracle) == answer, "another answer than the second program's");
         demand(same_all(), "a byte that is lent is another than the second program's");

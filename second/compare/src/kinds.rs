@@ -12,7 +12,7 @@ pub struct Kind {
     pub cases: &'static str,
     /// Makes one batch, asked of one process.
     pub batch: fn(&mut Random) -> Batch,
-    /// The refusals that this kind can meet.
+    /// The refusals that this kind can meet; one that it meets besides is a fault. No kind meets 9.
     pub refusals: &'static [usize],
     /// Whether a long run must meet each of them here; a kind with one case a process asks too little for that.
     pub meets_all: bool,
@@ -40,7 +40,7 @@ pub const KINDS: [Kind; 5] = [
         programs: &["calls"],
         cases: "inputs of calls",
         batch: calls::batch,
-        refusals: &[1, 2, 3, 4, 5, 6, 7, 8, 9, 10, 11, 12, 13, 16],
+        refusals: &[1, 2, 3, 4, 5, 6, 7, 8, 10, 11, 12, 13, 16],
         meets_all: false,
     },
     Kind {
@@ -48,7 +48,7 @@ pub const KINDS: [Kind; 5] = [
         programs: &["lent_records"],
         cases: "questions of records",
         batch: lent_records::batch,
-        refusals: &[1, 2, 3, 4, 5, 6, 7, 8, 9, 10, 11, 12, 13, 14, 15],
+        refusals: &[1, 2, 3, 4, 5, 6, 7, 8, 10, 11, 12, 13, 14, 15],
         meets_all: true,
     },
     Kind {

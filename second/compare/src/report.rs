@@ -21,6 +21,12 @@ pub fn report(options: &Options, outcome: &Outcome) -> bool {
         println!("compare: seed {}, DIFFERENT", options.seed);
         return false;
     }
+    let besides = besides(outcome);
+    if !besides.is_empty() {
+        let besides = besides.join(", ");
+        println!("compare: refusals that cannot be given, and are: {besides}");
+        return false;
+    }
     let missing = missing(options, outcome);
     if !missing.is_empty() {
         println!("compare: refusals never met: {}", missing.join(", "));
@@ -44,6 +50,17 @@ fn report_kind(kind: &Kind, tally: &Tally) {
     let met = kind.refusals.iter();
     let met: Vec<String> = met.map(|&no| format!("{no}:{}", tally.met[no])).collect();
     println!("{}: refusals {}", kind.name, met.join(" "));
+}
+
+/// The refusals that a kind has met, though it cannot.
+fn besides(outcome: &Outcome) -> Vec<String> {
+    let mut besides = Vec::new();
+    for (kind, tally) in KINDS.iter().zip(&outcome.tallies) {
+        let met = (1..=REFUSALS).filter(|&no| tally.met[no] > 0);
+        let met = met.filter(|no| !kind.refusals.contains(no));
+        besides.extend(met.map(|no| format!("{no} of {}", kind.name)));
+    }
+    besides
 }
 
 /// The refusals that no asked kind has met, though one can, and those that a kind must meet and has not.

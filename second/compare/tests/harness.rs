@@ -74,7 +74,8 @@ fn right_answers() {
 fn finds(program: &str, kind: &str, fault: &str) {
     let folder = folder(&format!("{program}-{fault}"));
     let mut words = options(kind, program, fault);
-    words.extend(["--seed", "9", "--seconds", "1"].map(str::to_string));
+    // It ends at the first difference.
+    words.extend(["--seed", "9", "--seconds", "20"].map(str::to_string));
     let output = run(&folder, &words);
     let said = text(&output);
     assert_eq!(output.status.code(), Some(1), "{program} {fault}: {said}");
@@ -118,6 +119,20 @@ fn wrong_answers_of_lent_records() {
         "swapped",
         "old_record",
         "past_listing",
+    ] {
+        finds("lent_records", "lent_records", fault);
+    }
+}
+
+#[test]
+fn wrong_answers_of_early_runs() {
+    for fault in [
+        "early_refused",
+        "held_beyond_the_limit",
+        "ten_before_twelve",
+        "ended_while_held",
+        "ended_a_tick_late",
+        "chosen_while_held",
     ] {
         finds("lent_records", "lent_records", fault);
     }

@@ -20,7 +20,7 @@ const CALLS: [&str; 5] = ["list", "release", "finish", "look", "start"];
 /// What a call may answer, by the header.
 const ANSWERS: [&[u64]; 5] = [
     &[0, 14, 15],
-    &[0, 7, 8, 9, 10, 12, 15],
+    &[0, 7, 8, 10, 12, 15],
     &[0, 7, 8, 11, 12, 15],
     &[0, 8, 12, 13, 15],
     &[0, 1, 2, 3, 4, 5, 6],

@@ -19,11 +19,11 @@ fn options(seconds: u64) -> Options {
     }
 }
 
-/// A run in which every kind has met every refusal.
+/// A run in which every kind has met every refusal that it can.
 fn met() -> Outcome {
     let mut outcome = Outcome::default();
-    for tally in &mut outcome.tallies {
-        tally.met.fill(1);
+    for (kind, tally) in KINDS.iter().zip(&mut outcome.tallies) {
+        kind.refusals.iter().for_each(|&no| tally.met[no] = 1);
     }
     outcome
 }
@@ -35,7 +35,8 @@ fn all_met() {
 
 #[test]
 fn a_refusal_that_no_kind_meets() {
-    for no in 1..=19 {
+    // 9 is never given.
+    for no in (1..=19).filter(|&no| no != 9) {
         let mut outcome = met();
         for tally in &mut outcome.tallies {
             tally.met[no] = 0;
@@ -59,6 +60,15 @@ fn a_refusal_that_one_kind_does_not_meet() {
         let mut outcome = met();
         outcome.tallies[place].met[5] = 0;
         assert_eq!(report(&options(20), &outcome), holds, "{kind}");
+    }
+}
+
+#[test]
+fn a_refusal_that_cannot_be_given() {
+    for (place, kind) in KINDS.iter().enumerate() {
+        let mut outcome = met();
+        outcome.tallies[place].met[9] = 1;
+        assert!(!report(&options(1), &outcome), "{}", kind.name);
     }
 }
 

@@ -37,12 +37,27 @@ fn refused_calls_change_no_byte() {
     let mut held = started();
     assert_eq!(calls::release(&mut held, 5, 7), Ok((2, 10)));
     let before = held.clone();
-    assert_eq!(calls::release(&mut held, 5, 9), Err(9));
+    assert_eq!(calls::release(&mut held, 5, 6), Err(8));
     assert_eq!(calls::finish(&mut held, 1, 9), Err(11));
     assert_eq!(calls::look(&mut held, 5, 9), Err(13));
     assert_eq!(calls::start(&mut held, 3, &table()), Err(6));
     assert_eq!(calls::list(&held, &mut [0; 9]), Err(14));
     assert!(held == before);
+}
+
+#[test]
+fn early_runs_are_held() {
+    let mut held = started();
+    assert_eq!(calls::release(&mut held, 5, 7), Ok((2, 10)));
+    assert_eq!(calls::release(&mut held, 5, 9), Ok((1, 13)));
+    assert_eq!(held[CLOCK], 9);
+    assert_eq!(calls::finish(&mut held, 5, 9), Ok(-1));
+    assert_eq!(calls::look(&mut held, 1, 9), Ok([0, 0, 0]));
+    let before = held.clone();
+    assert_eq!(calls::finish(&mut held, 5, 9), Err(11));
+    assert!(held == before);
+    assert_eq!(calls::look(&mut held, 1, 10), Ok([2, 5, 13]));
+    assert_eq!(calls::finish(&mut held, 5, 10), Ok(-3));
 }
 
 #[test]

@@ -26,14 +26,14 @@ enum Class {
     Fixed,
 }
 
-/// The most urgent oldest run on a core of a sound record: class, then deadline, then task number.
+/// The most urgent oldest run that a core of a sound record may choose at its clock: class, then deadline, then task number.
 pub(crate) fn choice(record: &Record, core: u64) -> Choice {
     let mut best = None;
     for index in 0..record.count as usize {
-        let oldest = record.states[index].runs[0];
+        let (task, oldest) = (&record.tasks[index], record.states[index].runs[0]);
         // A task with no run has core 0 here, so it matches none.
-        if oldest.core == core {
-            let class = class(&record.tasks[index], core);
+        if oldest.core == core && !oldest.held(task, record.clock) {
+            let class = class(task, core);
             let key = (class, oldest.deadline, index as u64 + 1);
             best = Some(best.map_or(key, |best| key.min(best)));
         }

@@ -7,38 +7,40 @@ use crate::refusal;
 use crate::turn;
 
 impl Record {
-    /// Takes a new run and answers its core and deadline.
+    /// Takes a new run, held where it comes early, and answers its core and deadline.
     pub fn release(&mut self, task: u64, time: u64) -> Result<(u64, u64), u32> {
         self.check_sound()?;
         let index = self.task_index(task)?;
         self.check_time(time)?;
         let (task, state) = (&self.tasks[index], &mut self.states[index]);
-        if state.had == 1 && time < state.last + task.period {
-            return Err(refusal::TOO_SOON);
+        let released = state.release_time(task, time);
+        if released > CLOCK {
+            return Err(refusal::TIME_OVER);
         }
         if state.unfinished == RUNS as u64 {
             return Err(refusal::TOO_MANY_RUNS);
         }
         let core = turn::step(task, &mut state.counts, &mut state.place) as u64 + 1;
-        let deadline = time + task.period;
+        let deadline = released + task.due_after();
         state.runs[state.unfinished as usize] = Run { core, deadline };
         state.unfinished += 1;
-        state.last = time;
+        state.last = released;
         state.had = 1;
         self.clock = time;
         Ok((core, deadline))
     }
 
-    /// Ends the task's oldest run and answers the time less its deadline.
+    /// Ends the task's oldest run, unless it is held, and answers the time less its deadline.
     pub fn finish(&mut self, task: u64, time: u64) -> Result<i64, u32> {
         self.check_sound()?;
         let index = self.task_index(task)?;
         self.check_time(time)?;
-        let state = &mut self.states[index];
-        if state.unfinished == 0 {
+        let (task, state) = (&self.tasks[index], &mut self.states[index]);
+        let oldest = state.runs[0];
+        if state.unfinished == 0 || oldest.held(task, time) {
             return Err(refusal::NO_RUN);
         }
-        let late = time as i64 - state.runs[0].deadline as i64;
+        let late = time as i64 - oldest.deadline as i64;
         state.runs.copy_within(1.., 0);
         state.runs[RUNS - 1] = Run::default();
         state.unfinished -= 1;

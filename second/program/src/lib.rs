@@ -5,6 +5,7 @@ pub mod assign;
 pub mod bounds;
 pub mod choice;
 mod dispatch;
+mod early;
 pub mod host;
 pub mod limits;
 pub mod listing;

@@ -10,7 +10,6 @@ pub const COMMON_PERIOD: u32 = 5;
 pub const TOO_HEAVY: u32 = 6;
 pub const NO_SUCH_TASK: u32 = 7;
 pub const TIME_PAST: u32 = 8;
-pub const TOO_SOON: u32 = 9;
 pub const TOO_MANY_RUNS: u32 = 10;
 pub const NO_RUN: u32 = 11;
 pub const TIME_OVER: u32 = 12;

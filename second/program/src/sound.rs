@@ -137,5 +137,5 @@ fn sound_runs(task: &Task, state: &State) -> bool {
 fn sound_run(task: &Task, run: &Run) -> bool {
     (1..=CORES as u64).contains(&run.core)
         && task.shares[run.core as usize - 1] > 0
-        && run.deadline <= CLOCK + task.period
+        && run.deadline <= CLOCK + task.due_after()
 }

@@ -91,7 +91,7 @@ impl Play {
         }
     }
 
-    /// Releases what may be, lets each core run a tick, ends what is done by then.
+    /// Releases some tasks, early ones too, lets each core run a tick, ends what is done by then.
     fn tick(&mut self, random: &mut Random, time: u64, eager: u64) {
         for task in 1..=self.left.len() as u64 {
             if random.below(10) < eager {
@@ -125,7 +125,7 @@ fn no_run_is_later_than_its_bound() {
     for round in 0..60 {
         let (cores, table) = table(&mut random, 40);
         let mut play = Play::new(cores, &table);
-        let eager = if round % 2 == 0 { 10 } else { 7 };
+        let eager = [10, 3, 1][round % 3];
         for time in 0..400 {
             play.tick(&mut random, time, eager);
         }

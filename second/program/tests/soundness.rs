@@ -164,6 +164,7 @@ fn last_releases() {
         |r| r.states[1].last = 1,
     ]);
     assert!(stays_sound(|r| r.states[0].last = CLOCK));
+    assert!(stays_sound(|r| r.states[0].last = r.clock + 1));
     assert!(stays_sound(|r| r.states[1].had = 1));
 }
 
@@ -211,7 +212,6 @@ fn refused_calls_leave_the_record() {
     assert_eq!(record.release(7, CLOCK + 1), Err(7));
     assert_eq!(record.release(1, CLOCK + 1), Err(12));
     assert_eq!(record.release(1, 21), Err(8));
-    assert_eq!(record.release(5, 22), Err(9));
     assert_eq!(record.finish(7, 30), Err(7));
     assert_eq!(record.finish(1, u64::MAX), Err(12));
     assert_eq!(record.finish(2, 21), Err(8));
@@ -226,7 +226,7 @@ fn refused_calls_leave_the_record() {
         deadline: 5,
     }; 8];
     record.states[4].unfinished = 8;
-    assert_eq!(record.release(5, 22), Err(9));
+    assert_eq!(record.release(5, 22), Err(10));
     assert_eq!(record.release(5, 23), Err(10));
 }
 

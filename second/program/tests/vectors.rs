@@ -11,8 +11,8 @@ fn folder(part: &str) -> PathBuf {
     Path::new(&folder).join(part)
 }
 
-/// Runs each input of a folder and compares every byte.
-fn compare(part: &str, work: fn(&[u8]) -> Vec<u8>) {
+/// Runs each input of a folder, which has so many, and compares every byte.
+fn compare(part: &str, number: usize, work: fn(&[u8]) -> Vec<u8>) {
     let folder = folder(part);
     let mut tested = 0;
     for entry in fs::read_dir(&folder).expect("the folder can be read") {
@@ -25,22 +25,24 @@ fn compare(part: &str, work: fn(&[u8]) -> Vec<u8>) {
             tested += 1;
         }
     }
-    assert!(tested > 0, "no example in {folder:?}");
+    assert_eq!(tested, number, "{folder:?}");
 }
 
 #[test]
 fn plans() {
-    compare("plan", second::program::program);
+    compare("plan", 240, second::program::program);
 }
 
 #[test]
 fn calls() {
-    compare("calls", second::player::calls);
+    compare("calls", 10, second::player::calls);
+    compare("always", 80, second::player::calls);
+    compare("early", 120, second::player::calls);
 }
 
 #[test]
 fn sheets() {
-    compare("sheet", second::sheets::sheet);
-    compare("table", second::sheets::table);
-    compare("office", second::office::office);
+    compare("sheet", 100, second::sheets::sheet);
+    compare("table", 60, second::sheets::table);
+    compare("office", 100, second::office::office);
 }

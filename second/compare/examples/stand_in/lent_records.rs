@@ -1,5 +1,6 @@
 //! What lent_records.c should answer to a record and its frames, or would with a fault in the product.
 
+use crate::early::Asked;
 use crate::input::Input;
 use compare::lent_records::layout::{self, RECORD};
 use second::choice::Choice;
@@ -41,7 +42,8 @@ fn frame(input: &mut Input, record: &mut Vec<u8>, fault: &str, answers: &mut Vec
         lent.record[(place + byte) as usize] = (value >> (8 * byte)) as u8;
     }
     let before = lent.record.clone();
-    let refused = lent.make(call, number, time).err().unwrap_or(0);
+    let right = lent.make(call, number, time).err().unwrap_or(0);
+    let refused = lent.spoil_early(fault, [call, number, time], &before, right);
     match refused {
         0 => lent.spoil_taken(fault, call, before),
         _ => lent.spoil_refused(fault, call, time),
@@ -81,6 +83,27 @@ impl Lent {
         }
         self.record = layout::bytes(&record);
         Ok(())
+    }
+
+    /// The named fault in a call on a sound record: its refusal, or its choice.
+    fn spoil_early(&mut self, fault: &str, asked: [u64; 3], before: &[u8], right: u32) -> u32 {
+        let [call, number, time] = asked;
+        let record = layout::record(before);
+        if !(1..=3).contains(&call) || !record.sound() {
+            return right;
+        }
+        let asked = Asked {
+            record,
+            call,
+            number,
+            time,
+        };
+        if let ("chosen_while_held", 3, 0) = (fault, call, right) {
+            let choice = asked.unheld().map_or([0; 3], three);
+            let choice = choice.map(u64::to_le_bytes);
+            self.first.copy_from_slice(choice.as_flattened());
+        }
+        asked.refused(fault, right)
     }
 
     /// The named fault in a call that was taken.

@@ -1,6 +1,7 @@
 //! Stands in for the product's programs in the tests: `stand_in PROGRAM [FAULT]` answers as the second program would.
 #![forbid(unsafe_code)]
 
+mod early;
 mod host;
 mod input;
 mod lent_records;

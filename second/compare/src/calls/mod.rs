@@ -1,8 +1,10 @@
 //! Inputs for the program `calls`: a table's text, the divider, then calls.
 
+pub mod around;
 pub mod call;
 mod divider;
 pub mod due;
+pub mod first;
 mod line;
 mod long;
 mod odd;

@@ -27,13 +27,16 @@ fn number(random: &mut Random, record: &Record) -> u64 {
     }
 }
 
-/// Around the clock, around a task's due time, at the clock's limit and above it.
+/// Around the clock, around a task's due time, at the clock's limit, a period before it and above it.
 fn time(random: &mut Random, record: &Record) -> u64 {
     let clock = record.clock;
     let task = random.between(1, record.count);
     let due = due(record, task);
+    let period = record.tasks[task as usize - 1].period;
+    // A release a period before the limit is the last that an early one can follow.
+    let last = random.pick(&[CLOCK, CLOCK - period, CLOCK - period + 1]);
     // Few calls are made once the clock stands at its limit, so it is rarely set there.
-    let limit = if random.one_in(30) { CLOCK } else { clock };
+    let limit = if random.one_in(30) { last } else { clock };
     let known = [
         0,
         clock.saturating_sub(1),

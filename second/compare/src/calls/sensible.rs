@@ -1,7 +1,7 @@
-//! Calls that are accepted, or nearly: a release on time or a tick early, a finish of what has runs, a look.
+//! Calls that are accepted, or nearly: a release on time or early, a finish of what has runs, a look.
 
 use super::call::{Call, Name};
-use super::due::due;
+use super::due::{due, oldest};
 use super::pace::Pace;
 use crate::random::Random;
 use second::limits::RUNS;
@@ -19,7 +19,7 @@ pub fn call(random: &mut Random, record: &Record, pace: &Pace) -> Call {
             time: later,
         }
     } else {
-        release(random, record, later)
+        release(random, record, pace, later)
     }
 }
 
@@ -27,21 +27,46 @@ fn state(record: &Record, task: u64) -> &State {
     &record.states[task as usize - 1]
 }
 
-/// A release of one of the tasks that may come soon: when it is due, later, rarely a tick early.
-fn release(random: &mut Random, record: &Record, later: u64) -> Call {
+/// A release that is on time or later, or one that is early.
+fn release(random: &mut Random, record: &Record, pace: &Pace, later: u64) -> Call {
+    if random.below(10) < pace.early {
+        return early(random, record, pace, later);
+    }
     let tasks = (0..4).map(|_| random.between(1, record.count));
     let task = tasks.min_by_key(|&task| due(record, task)).unwrap_or(1);
     // A task that is full stays so until one of its runs is finished.
     if state(record, task).unfinished == RUNS as u64 && !random.one_in(8) {
         return finish_of(random, record, task, later);
     }
-    let early = u64::from(random.one_in(10));
-    let due = due(record, task).saturating_sub(early).max(record.clock);
+    let due = due(record, task).max(record.clock);
     Call {
         name: Name::Release,
         number: task,
         time: random.pick(&[due, due, due.max(later)]),
     }
+}
+
+/// An early release, mostly of the same task, so that its eight places fill.
+fn early(random: &mut Random, record: &Record, pace: &Pace, later: u64) -> Call {
+    let any = random.between(1, record.count);
+    let favourite = pace.favourite(record);
+    let task = random.pick(&[favourite, favourite, any]);
+    if state(record, task).unfinished == RUNS as u64 && !random.one_in(3) {
+        return finish_of(random, record, task, later);
+    }
+    Call {
+        name: Name::Release,
+        number: task,
+        time: early_time(random, record, task),
+    }
+}
+
+/// At once, at the last release, or a period less one tick after it.
+fn early_time(random: &mut Random, record: &Record, task: u64) -> u64 {
+    let tick_early = due(record, task).saturating_sub(1);
+    let last = state(record, task).last;
+    let time = random.pick(&[record.clock, record.clock, last, tick_early]);
+    time.max(record.clock)
 }
 
 /// A finish of a task with runs, if a few tries find one.
@@ -52,13 +77,15 @@ fn finish(random: &mut Random, record: &Record, later: u64) -> Call {
     finish_of(random, record, task, later)
 }
 
-/// At once, at the oldest run's deadline if that is still to come, or later.
+/// At once, at the oldest run's release or its deadline if they are still to come, or later.
 fn finish_of(random: &mut Random, record: &Record, task: u64, later: u64) -> Call {
+    let released = oldest(record, task).map_or(0, |(released, _)| released);
     let deadline = state(record, task).runs[0].deadline;
     let on_time = deadline.clamp(record.clock, later);
+    let released = released.max(record.clock);
     Call {
         name: Name::Finish,
         number: task,
-        time: random.pick(&[record.clock, on_time, later]),
+        time: random.pick(&[record.clock, on_time, later, released]),
     }
 }

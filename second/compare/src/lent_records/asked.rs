@@ -3,8 +3,9 @@
 use super::held::Held;
 use super::spoil::Spoilt;
 use super::values;
-use crate::calls::call::{Call, NAMES};
-use crate::calls::due::due;
+use crate::calls::around;
+use crate::calls::call::{Call, Name, NAMES};
+use crate::calls::due::oldest;
 use crate::host::{buffer, bytes};
 use crate::random::Random;
 use second::listing::listing;
@@ -25,6 +26,10 @@ impl Asked {
         match random.below(13) {
             0 => Asked::start(random),
             1..=3 => Asked::list(random, record),
+            4..=6 => match around::call(random, record) {
+                Some(call) => Asked::Call(call),
+                None => Asked::call(random, record, spoilt),
+            },
             _ => Asked::call(random, record, spoilt),
         }
     }
@@ -54,13 +59,16 @@ impl Asked {
     }
 
     fn call(random: &mut Random, record: &Record, spoilt: Spoilt) -> Self {
+        let name = random.pick(&NAMES);
         let number = values::number(random, record, spoilt.task());
         let known = (1..=record.count).contains(&number);
-        let due = due(record, if known { number } else { 1 });
-        Asked::Call(Call {
-            name: random.pick(&NAMES),
-            number,
-            time: values::time(random, record, due, spoilt.value),
-        })
+        let task = if known { number } else { 1 };
+        let time = values::time(random, record, task, spoilt.value);
+        // A look is often at the core of the run that the time is for.
+        let number = match oldest(record, task) {
+            Some((_, core)) if name == Name::Look && random.one_in(2) => core,
+            _ => number,
+        };
+        Asked::Call(Call { name, number, time })
     }
 }

@@ -1,10 +1,12 @@
 //! Changes that no call makes, though many leave a record sound.
 
+use super::early;
 use crate::random::Random;
 use second::limits::{CLOCK, CORES, RUNS};
 use second::record::{Record, Run};
+use second::task::Task;
 
-const BENDS: [fn(&mut Random, &mut Record); 10] = [
+const BENDS: [fn(&mut Random, &mut Record); 13] = [
     lighten,
     shift_share,
     shift_count,
@@ -12,6 +14,9 @@ const BENDS: [fn(&mut Random, &mut Record); 10] = [
     set_clock,
     set_last,
     move_run,
+    hold_run,
+    hold_run,
+    fill_runs,
     fill_runs,
     swap_tasks,
     more_cores,
@@ -84,8 +89,9 @@ fn set_clock(random: &mut Random, record: &mut Record) {
 /// A last release at either end of the clock, also above the stored clock.
 fn set_last(random: &mut Random, record: &mut Record) {
     let task = task(random, record);
+    let early = early::last_release(random, record.clock, &record.tasks[task]);
     record.states[task].had = 1;
-    record.states[task].last = random.pick(&[0, CLOCK, CLOCK - 1, record.clock]);
+    record.states[task].last = random.pick(&[0, CLOCK, CLOCK - 1, record.clock, early, early]);
 }
 
 /// Another core or deadline for a stored run.
@@ -103,17 +109,37 @@ fn move_run(random: &mut Random, record: &mut Record) {
     }
 }
 
-/// Eight unfinished runs on one core of the task.
+/// An oldest run that is held until about the clock.
+fn hold_run(random: &mut Random, record: &mut Record) {
+    let place = task(random, record);
+    let (task, state) = (&record.tasks[place], &mut record.states[place]);
+    if state.unfinished == 0 {
+        state.runs[0].core = first_core(task);
+        state.unfinished = 1;
+    }
+    state.runs[0].deadline = early::deadline(random, record.clock, task);
+}
+
+/// Eight unfinished runs on one core of the task, of any deadlines or of some around the clock, and a last release.
 fn fill_runs(random: &mut Random, record: &mut Record) {
-    let task = task(random, record);
-    let core = record.tasks[task].first_core().map_or(1, |core| core + 1);
-    for run in &mut record.states[task].runs {
+    let place = task(random, record);
+    let (task, state) = (&record.tasks[place], &mut record.states[place]);
+    for run in &mut state.runs {
+        let any = random.below(CLOCK);
+        let early = early::deadline(random, record.clock, task);
         *run = Run {
-            core: core as u64,
-            deadline: random.below(CLOCK),
+            core: first_core(task),
+            deadline: random.pick(&[any, early, early]),
         };
     }
-    record.states[task].unfinished = RUNS as u64;
+    state.unfinished = RUNS as u64;
+    state.had = 1;
+    state.last = early::last_release(random, record.clock, task);
+}
+
+/// The first core that a task has a share on, from 1.
+fn first_core(task: &Task) -> u64 {
+    task.first_core().map_or(1, |core| core as u64 + 1)
 }
 
 /// The order of the tasks is no part of soundness.

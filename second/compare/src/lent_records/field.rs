@@ -67,6 +67,16 @@ pub fn shares(task: usize) -> Field {
     OF_LINE[3].after(LINES + task * LINE)
 }
 
+/// A task's last release.
+pub fn last_release(task: usize) -> Field {
+    OF_STATE[0].after(STATES + task * STATE)
+}
+
+/// The deadlines of a task's runs.
+pub fn deadlines(task: usize) -> Field {
+    OF_STATE[1].after(STATES + task * STATE)
+}
+
 /// A task's turn counts.
 pub fn turn_counts(task: usize) -> Field {
     OF_STATE[2].after(STATES + task * STATE)

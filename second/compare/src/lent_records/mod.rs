@@ -4,6 +4,7 @@ mod apart;
 mod asked;
 mod base;
 mod bend;
+mod early;
 pub mod field;
 mod held;
 mod in_turn;

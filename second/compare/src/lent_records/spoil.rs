@@ -1,5 +1,6 @@
 //! Which bytes of a record are spoilt, and to what.
 
+use super::early;
 use super::field::{self, task_of, Field};
 use super::held::Held;
 use super::layout::{self, RECORD};
@@ -25,10 +26,31 @@ impl Spoilt {
 
     /// A number, a byte or nothing.
     pub fn new(random: &mut Random, held: &Held) -> Self {
-        match random.below(8) {
+        match random.below(10) {
             0 => Spoilt::NONE,
             1..=4 => Spoilt::number(random, held),
+            5 | 6 => Spoilt::early(random, held),
             _ => Spoilt::byte(random, held),
+        }
+    }
+
+    /// The deadline of an oldest run, or a last release, to one around the clock.
+    fn early(random: &mut Random, held: &Held) -> Self {
+        let Record { clock, .. } = held.record;
+        let any = random.between(1, held.record.count);
+        let task = random.pick(&[any, values::busiest(&held.record)]) as usize - 1;
+        let line = &held.record.tasks[task];
+        let (field, value) = match random.below(2) {
+            0 => (field::deadlines(task), early::deadline(random, clock, line)),
+            _ => {
+                let last = early::last_release(random, clock, line);
+                (field::last_release(task), last)
+            }
+        };
+        Spoilt {
+            place: field.place,
+            width: field.width,
+            value,
         }
     }
 

@@ -1,5 +1,6 @@
 //! What a number is spoilt to, and the times and numbers of calls around it.
 
+use crate::calls::due::{due, oldest};
 use crate::random::Random;
 use second::limits::{CLOCK, COMMON, CORES, RUNS, TASKS};
 use second::record::Record;
@@ -54,18 +55,25 @@ fn beside(random: &mut Random, record: &Record) -> u64 {
         record.cores,
         record.count,
         record.clock,
+        record.clock + task.period,
+        CLOCK - task.period,
     ]);
     (limit + random.below(3)).saturating_sub(1)
 }
 
-/// A call's time: at the clock, when a task is due, at the limit, beside a spoilt value, any.
-pub fn time(random: &mut Random, record: &Record, due: u64, spoilt: u64) -> u64 {
+/// A call's time: at the clock, when a task is due, when its oldest run is released, at the limit, beside a spoilt value, any.
+pub fn time(random: &mut Random, record: &Record, task: u64, spoilt: u64) -> u64 {
+    let due = due(record, task);
+    let released = oldest(record, task).map_or(record.clock, |(released, _)| released);
     let known = [
         record.clock,
         record.clock + 1,
         record.clock.saturating_sub(1),
         due.max(record.clock),
         due.saturating_sub(1),
+        released,
+        released + 1,
+        released.saturating_sub(1),
         spoilt,
         spoilt.saturating_sub(1),
         CLOCK,
@@ -73,19 +81,27 @@ pub fn time(random: &mut Random, record: &Record, due: u64, spoilt: u64) -> u64 
     ];
     match random.below(6) {
         0 => random.any_length(),
-        1 | 2 => record.clock + random.below(1_000),
+        1 => record.clock,
+        2 => record.clock + random.below(1_000),
         _ => random.pick(&known),
     }
 }
 
-/// A task's or a core's number: the spoilt one, the last ones and those after them, any.
+/// A task's or a core's number: the spoilt one, the busiest, the last ones and those after them, any.
 pub fn number(random: &mut Random, record: &Record, spoilt_task: u64) -> u64 {
     let (tasks, cores) = (record.count, record.cores);
-    match random.below(8) {
+    match random.below(9) {
         0..=2 => spoilt_task,
-        3 | 4 => random.between(1, tasks),
-        5 => random.between(1, cores),
-        6 => random.pick(&[0, tasks, tasks + 1, cores, cores + 1, 64, 65, 17, u64::MAX]),
+        3 => random.between(1, tasks),
+        4 | 5 => busiest(record),
+        6 => random.between(1, cores),
+        7 => random.pick(&[0, tasks, tasks + 1, cores, cores + 1, 64, 65, 17, u64::MAX]),
         _ => random.any_length(),
     }
+}
+
+/// The task, from 1, with the most runs.
+pub fn busiest(record: &Record) -> u64 {
+    let runs = |&task: &u64| record.states[task as usize - 1].unfinished;
+    (1..=record.count).max_by_key(runs).unwrap_or(1)
 }

@@ -1,4 +1,5 @@
 //! The header's record, by the places of its numbers.
+#![allow(dead_code)]
 
 /// A number of so many bytes at a place.
 pub fn number(bytes: &[u8], place: usize, length: usize) -> u64 {
