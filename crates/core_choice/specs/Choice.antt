@@ -11,10 +11,10 @@ use Rattle.core_choice.specs.declared.Choice.{Choice}
 use Rattle.core_choice.specs.declared.Choice.the-variants.{Idle, Fixed, Mover}
 use Rattle.core_choice.specs.declared.Best.{Best}
 
--- the better of the best task so far and task i, from 1: lowest task number at a tie
-abbrev pub betterTask : Best → ℕ → Line → State → ℕ → Best
-betterTask b i ln st k =
-    cond (waits st k && (eqb (b .task) 0 || ltb (keyOf ln st k) (b .key)))
+-- the better of the best task so far and task i, from 1, at an instant x: lowest task number at a tie
+abbrev pub betterTask : Best → ℕ → Line → State → ℕ → ℕ → Best
+betterTask b i ln st k x =
+    cond (waits ln st k x && (eqb (b .task) 0 || ltb (keyOf ln st k) (b .key)))
     (record { task = i; key = keyOf ln st k })
     b
 

@@ -63,12 +63,19 @@ pub struct Best {
     pub key: u64,
 }
 
-// The better of the best task so far and another, from 1.
-pub fn better_task(best: Best, task: usize, line: Line, state: State, core: usize) -> Best
-    requires { ⌜ (0 < core) × (core ≤ coresLimit) × (deadlineOf state ≤ clockLimit + periodLimit) ⌝ }
-    ensures { λ r. ⌜ r ≡ betterTask best task line state core ⌝ }
+// The better of the best task so far and another, from 1, at a time.
+pub fn better_task(
+    best: Best,
+    task: usize,
+    line: Line,
+    state: State,
+    core: usize,
+    time: Ticks,
+) -> Best
+    requires { ⌜ (0 < core) × (core ≤ coresLimit) × (deadlineOf state ≤ clockLimit + periodLimit) × (time .0 ≤ clockLimit) ⌝ }
+    ensures { λ r. ⌜ r ≡ betterTask best task line state core (time .0) ⌝ }
 {
-    if !state.waits(core) {
+    if !state.waits(line, core, time) {
         return best;
     }
     let key = state.key(line, core);

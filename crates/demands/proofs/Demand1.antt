@@ -17,6 +17,7 @@ use Rattle.planning.specs.Tasks.{taskLine}
 use Rattle.task_state.specs.declared.State.{State}
 use Rattle.stored_runs.specs.Run.{run}
 use Rattle.task_state.specs.State.{runAt, runsOf, freshState, noState}
+use Rattle.task_state.specs.Due.{releaseAt}
 use Rattle.task_state.specs.Runs.{turnAt, withRun, withoutRun}
 use Rattle.turn.specs.declared.Turn.{Turn}
 use Rattle.dispatch.specs.declared.Record.{Record}
@@ -37,13 +38,17 @@ use Rattle.dispatch.proofs.Exactly.{exactly}
 use Rattle.dispatch.proofs.Always.{always-good, refused-same, accepted-clock, clock-rises, step-plan, plan-same}
 use Rattle.dispatch.proofs.AfterRelease.{release-answered, release-state, release-runs, release-others}
 use Rattle.dispatch.proofs.AfterFinish.{finish-answered, finish-state, finish-runs, finish-others}
-use Rattle.dispatch.proofs.Never.{never-15}
+use Rattle.dispatch.proofs.Never.{never-15, never-9}
 use Rattle.dispatch.proofs.Refused.{refused-empty, refused-unsound, unsound-15, unsound-stays}
 use Rattle.dispatch.proofs.Started.{started}
 
 -- each number is given exactly in its case of document 01's table, and none exactly if no case applies, whatever the record
 pub given-exactly : (r : Record) (c : Call) (n : ℕ) → (callRefusal r c ≡ n) ↔ Given r c n
 given-exactly = exactly
+
+-- 9 is given to no call on any record
+pub never-nine : (r : Record) (c : Call) → callRefusal r c ≡ 9 → ⊥
+never-nine = never-9
 
 -- so no two cases apply
 pub given-once : (r : Record) (c : Call) {n n′ : ℕ} → Given r c n → Given r c n′ → n ≡ n′
@@ -90,12 +95,15 @@ module _ (r : Record) (i : ℕ) (t : Ticks) where
   abbrev before : State
   before = taskState r i
 
-  -- its turn, and the deadline of a run that is released now
+  -- its turn, the release time of a run whose release is called now (Early), and the run's deadline, release time plus T
   abbrev turn : Turn
   turn = turnAt (taskLine (r .plan) i) before
 
+  abbrev at : ℕ
+  at = releaseAt (taskLine (r .plan) i) before (t .0)
+
   abbrev due : ℕ
-  due = t .0 + taskLine (r .plan) i .period .0
+  due = at + taskLine (r .plan) i .period .0
 
   module _ (ok : callRefusal r (Release i t) ≡ 0) where
     -- task i after a release that is accepted
@@ -110,9 +118,9 @@ module _ (r : Record) (i : ℕ) (t : Ticks) where
     pub release-adds : Shaped r → runsOf released ≡ runsOf before ++ (run (turn .core) due ∷ [])
     release-adds shaped = release-runs r i t ok shaped
 
-    -- its release is the task's last one, and its turn is counted
+    -- its release time is the task's last one, and its turn is counted
     pub release-counts : Shaped r
-        → (released .last ≡ t) × (released .had ≡ 1) × (released .counts ≡ turn .counts) × (released .place ≡ turn .place)
+        → (released .last ≡ ticks at) × (released .had ≡ 1) × (released .counts ≡ turn .counts) × (released .place ≡ turn .place)
     unfolding withRun
     release-counts shaped =
         let e = release-state r i t ok shaped in
@@ -139,9 +147,10 @@ module _ (r : Record) (i : ℕ) (t : Ticks) where
         let e = finish-state r i t ok shaped in
         (ap (λ (st : State). st .last) e, ap (λ (st : State). st .had) e, ap (λ (st : State). st .counts) e, ap (λ (st : State). st .place) e)
 
--- look answers the core's choice, and only the clock moves on
+-- look answers the core's choice in the record with its clock set, and only the clock moves on
 pub look-answers : (r : Record) (k : ℕ) (t : Ticks) → callRefusal r (Look k t) ≡ 0
-    → lookOf r k (t .0) ≡ record { refusal = 0; choice = choiceOf r k; next = record { plan = r .plan; clock = t; states = r .states } }
+    → let now : Record = record { plan = r .plan; clock = t; states = r .states } in
+    lookOf r k (t .0) ≡ record { refusal = 0; choice = choiceOf now k; next = now }
 look-answers r k t ok = look-taken r k (t .0) (sym ok ∙ look-no r k t) refl refl
 
 -- a core count m and a list xs, and the record that planning hands on

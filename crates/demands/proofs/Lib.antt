@@ -6,6 +6,7 @@ pub mod Text
 pub mod Demand2
 pub mod Runs
 pub mod Demand3
+pub mod Early
 pub mod Examples
 pub mod Host
 pub mod Office

@@ -15,7 +15,7 @@ use Rattle.dispatch.specs.Shape.{Shaped}
 use Rattle.dispatch.specs.Sound.{soundOf}
 use Rattle.dispatch.specs.Refusals.{taskTests, releaseRefusal, finishRefusal, lookRefusal}
 use Rattle.dispatch.specs.Calls.{callRefusal, after}
-use Rattle.dispatch.proofs.Held.{held, sound}
+use Rattle.dispatch.proofs.SoundFacts.{sound-facts, sound}
 use Rattle.dispatch.proofs.OneCall.{release-no, finish-no, look-no}
 use Rattle.dispatch.proofs.Always.{always-good}
 use Rattle.dispatch.proofs.Never.{never-15}
@@ -25,7 +25,7 @@ use Rattle.demands.proofs.Beneath.SoundClauses.{clauses, from-clauses}
 
 -- a record with arrays of the code's lengths passes the test of soundness exactly if every clause of document 01 holds
 pub sound-exactly : (r : Record) → Shaped r → (soundOf r ≡ true) ↔ Sound r
-sound-exactly r long = (λ e. clauses r long (held r e), λ x. sound r (from-clauses r long x))
+sound-exactly r long = (λ e. clauses r long (sound-facts r e), λ x. sound r (from-clauses r long x))
 
 -- and fails it exactly if not all of them hold
 pub unsound-exactly : (r : Record) → Shaped r → (soundOf r ≡ false) ↔ (Sound r → ⊥)

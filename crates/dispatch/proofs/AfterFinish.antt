@@ -5,6 +5,7 @@ use mathlib.Core.List.{_∷_}
 use native.Mathlib.Decide.{ℕ-discrete}
 use lib.IntN.{ℤ, subℕ}
 use Rattle.units.specs.declared.ticks.Ticks.{Ticks}
+use Rattle.planning.specs.Tasks.{taskLine}
 use Rattle.task_state.specs.declared.State.{State}
 use Rattle.task_state.specs.State.{runAt, runsOf}
 use Rattle.task_state.specs.Runs.{withoutRun}
@@ -44,7 +45,7 @@ module _ (r : Record) (i : ℕ) (t : Ticks) where
         ∙ ap (λ q. record { refusal = 0; late = late; next = q }) (sym moves)
 
     -- every test was passed
-    passed : Passed r (r .plan .count) i (t .0) × (finishTests st ≡ 0)
+    passed : Passed r (r .plan .count) i (t .0) × (finishTests (taskLine (r .plan) i) st (t .0) ≡ 0)
     passed = finish-passed r i (t .0) (sym (finish-no r i t) ∙ ok)
 
     module _ (shaped : Shaped r) where
@@ -56,7 +57,7 @@ module _ (r : Record) (i : ℕ) (t : Ticks) where
 
       -- the oldest of the unfinished runs is ended
       pub finish-runs : runsOf st ≡ runAt st 0 ∷ runsOf (taskState (step r (Finish i t)) i)
-      finish-runs = runs-less st (has-run st (passed .1)) ∙ ap (λ q. runAt st 0 ∷ runsOf q) (sym finish-state)
+      finish-runs = runs-less st (has-run (taskLine (r .plan) i) st (t .0) (passed .1)) ∙ ap (λ q. runAt st 0 ∷ runsOf q) (sym finish-state)
 
   -- another task's state stays, refused or not
   pub finish-others : (j : ℕ) → 0 < j → (j ≡ i → ⊥) → taskState (step r (Finish i t)) j ≡ taskState r j

@@ -1,5 +1,5 @@
 -- What a release that is taken answers and leaves of the record: a run more of its task, and every other task as it was.
-use Prim.Native.Nat.{ℕ, _+_, _-_, _<_}
+use Prim.Native.Nat.{ℕ, _-_, _<_}
 use mathlib.Core.Path.{_≡_, refl, ap, sym, _∙_}
 use mathlib.Core.List.{[], _∷_, _++_}
 use native.Mathlib.Decide.{ℕ-discrete}
@@ -13,7 +13,8 @@ use Rattle.turn.specs.declared.Turn.{Turn}
 use Rattle.task_state.specs.declared.State.{State}
 use Rattle.stored_runs.specs.Run.{run}
 use Rattle.task_state.specs.State.{noState, runsOf}
-use Rattle.task_state.specs.Runs.{turnAt, withRun, takenRun}
+use Rattle.task_state.specs.Due.{releaseAt}
+use Rattle.task_state.specs.Runs.{turnAt, dueAt, withRun, takenRun}
 use Rattle.task_state.specs.Tests.{releaseTests}
 use Rattle.task_state.proofs.Facts.{Facts, facts}
 use Rattle.task_state.proofs.Passed.{has-room}
@@ -40,7 +41,7 @@ pub moved-task : (r : Record) → Good r → (i : ℕ) → i - 1 < r .plan .coun
 moved-task r g i h t st = getD-set-same (r .states) (i - 1) st noState (omega (arith, task-in r g (i - 1) h, g .shaped .states))
 
 module _ (r : Record) (i : ℕ) (t : Ticks) where
-  -- the task's line, its state, its turn and the run's deadline
+  -- the task's line, its state, its turn, and the run's release time and deadline
   abbrev ln : Line
   ln = taskLine (r .plan) i
 
@@ -50,12 +51,15 @@ module _ (r : Record) (i : ℕ) (t : Ticks) where
   abbrev turn : Turn
   turn = turnAt ln st
 
+  abbrev at : ℕ
+  at = releaseAt ln st (t .0)
+
   abbrev due : ℕ
-  due = t .0 + ln .period .0
+  due = dueAt ln st (t .0)
 
   module _ (ok : callRefusal r (Release i t) ≡ 0) where
     -- the record moves on
-    moves : step r (Release i t) ≡ moved r (i - 1) (withRun ln st (t .0)) (t .0)
+    moves : step r (Release i t) ≡ moved r (i - 1) (withRun ln st at) (t .0)
     unfolding takenRun
     moves = ap (λ a. a .next) (release-taken r i (t .0) (release-no r i t) ok refl)
 
@@ -80,14 +84,14 @@ module _ (r : Record) (i : ℕ) (t : Ticks) where
       sound = facts ln st (task-sound r good (i - 1) (passed .0 .here))
 
       -- the task's state after it
-      pub release-state : taskState (step r (Release i t)) i ≡ withRun ln st (t .0)
-      release-state = ap (λ q. taskState q i) moves ∙ moved-task r good i (passed .0 .here) (t .0) (withRun ln st (t .0))
+      pub release-state : taskState (step r (Release i t)) i ≡ withRun ln st at
+      release-state = ap (λ q. taskState q i) moves ∙ moved-task r good i (passed .0 .here) (t .0) (withRun ln st at)
 
       -- the run stands after the unfinished ones
       pub release-runs : runsOf (taskState (step r (Release i t)) i) ≡ runsOf st ++ (run (turn .core) due ∷ [])
       release-runs =
           ap runsOf release-state
-          ∙ runs-more ln st (t .0) (task-shaped r good (i - 1) (passed .0 .here)) (has-room ln st (t .0) (passed .1) (sound .few))
+          ∙ runs-more ln st at (task-shaped r good (i - 1) (passed .0 .here)) (has-room ln st (t .0) (passed .1) (sound .few))
 
   -- another task's state stays, refused or not
   pub release-others : (j : ℕ) → 0 < j → (j ≡ i → ⊥) → taskState (step r (Release i t)) j ≡ taskState r j
@@ -95,4 +99,4 @@ module _ (r : Record) (i : ℕ) (t : Ticks) where
     where
       go : Dec (callRefusal r (Release i t) ≡ 0) → taskState (step r (Release i t)) j ≡ taskState r j
       go (no n) = ap (λ q. taskState q j) (refused-same r (Release i t) n)
-      go (yes e) = ap (λ q. taskState q j) (moves e) ∙ moved-others r i j (t .0) (withRun ln st (t .0)) (passed e .0 .from) from other
+      go (yes e) = ap (λ q. taskState q j) (moves e) ∙ moved-others r i j (t .0) (withRun ln st at) (passed e .0 .from) from other

@@ -71,7 +71,7 @@ module _ (r : Record) (i t : ℕ) where
   unfolding lookOf
   look-refused {n} q z = rw (← q, ne-eqb n 0 z)
 
-  pub look-taken : {n : ℕ} {x : Choice} → n ≡ lookRefusal r i t → n ≡ 0 → x ≡ choiceOf r i
+  pub look-taken : {n : ℕ} {x : Choice} → n ≡ lookRefusal r i t → n ≡ 0 → x ≡ choiceOf (atTime r t) i
       → lookOf r i t ≡ record { refusal = n; choice = x; next = atTime r t }
   unfolding lookOf
   look-taken q e w = rw (← q, e, w)
@@ -109,7 +109,7 @@ module _ (r : Record) (i t : ℕ) where
     unfolding lookOr
     look-or-refused {n} q z = rw (look-refused q z, ne-eqb n 0 z)
 
-    pub look-or-taken : {n : ℕ} {x : Told} → n ≡ lookRefusal r i t → n ≡ 0 → x ≡ toldOf (choiceOf r i)
+    pub look-or-taken : {n : ℕ} {x : Told} → n ≡ lookRefusal r i t → n ≡ 0 → x ≡ toldOf (choiceOf (atTime r t) i)
         → lookOr r i t told ≡ record { refusal = n; told = x; next = atTime r t }
     unfolding lookOr
     look-or-taken q e w = rw (look-taken q e refl, e, w)
@@ -125,7 +125,7 @@ module _ (r : Record) (i t : ℕ) where
 
   told-idle : choiceTold (lookOr r i t (toldOf Idle) .told) ≡ lookOf r i t .choice
   unfolding lookOr lookOf
-  told-idle = by-cases (eqb (lookRefusal r i t) 0) (λ e. rw e (told-again (choiceOf r i))) (λ e. rw (e, e))
+  told-idle = by-cases (eqb (lookRefusal r i t) 0) (λ e. rw e (told-again (choiceOf (atTime r t) i))) (λ e. rw (e, e))
 
   pub look-or-idle : {a : LookedTold} {x : Choice} → a ≡ lookOr r i t (toldOf Idle) → x ≡ choiceTold (a .told)
       → _≡_ {A = Looked} (record { refusal = a .refusal; choice = x; next = a .next }) (lookOf r i t)

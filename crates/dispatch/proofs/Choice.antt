@@ -26,18 +26,19 @@ use Rattle.core_choice.specs.declared.Side.the-variants.{Upper, Lower}
 use Rattle.core_choice.specs.declared.Choice.{Choice}
 use Rattle.core_choice.specs.declared.Choice.the-variants.{Idle, Fixed, Mover}
 use Rattle.dispatch.specs.Record.{lineAt, stateAt}
-use Rattle.dispatch.specs.Look.{bestOf, choiceFor, choiceOf}
+use Rattle.dispatch.specs.Look.{bestOf, choiceFor, choiceOf, atTime}
 use Rattle.dispatch.specs.Shape.{Good}
 use Rattle.dispatch.specs.Calls.{answeredOf, callRefusal}
 use Rattle.dispatch.specs.Choice.{Waits, deadlineAt, UpperOn, LowerOn, GoesBefore, mover-first, upper-first, earliest, lowest}
 use Rattle.dispatch.specs.Choice.{GoesFirst, Chosen, idle, as-fixed, as-upper, as-lower}
-use Rattle.dispatch.proofs.Held.{held, waits-in}
-use Rattle.dispatch.proofs.Records.{task-in}
+use Rattle.dispatch.proofs.SoundFacts.{sound-facts, waits-in}
+use Rattle.dispatch.proofs.Records.{task-in, timed-good}
+use Rattle.dispatch.proofs.Passed.{look-passed}
 use Rattle.dispatch.proofs.Answers.{look-taken}
 use Rattle.dispatch.proofs.OneCall.{look-no}
 use Rattle.dispatch.proofs.Search.{keyAt, Least, Found, found}
 use Rattle.dispatch.proofs.Waiting.{fixed-still, lower-only, Keyed, upper-key, lower-key, fixed-key}
-use Rattle.dispatch.proofs.Waiting.{key-upper, key-mover, key-lower, key-fixed, waits-keyed}
+use Rattle.dispatch.proofs.Waiting.{key-upper, key-mover, key-lower, key-fixed, waits-keyed, waits-at, at-waits}
 
 module _ (r : Record) (g : Good r) (k : ℕ) where
   -- a task's row in the table
@@ -47,13 +48,13 @@ module _ (r : Record) (g : Good r) (k : ℕ) where
   -- at most one upper mover is on a core
   one-upper : (i j : ℕ) → UpperOn r k i → UpperOn r k j → i - 1 ≡ j - 1
   one-upper i j a b =
-      let s = sound-kept (r .plan) (g .shaped .plan) (held r (g .sound) .plan) .structure in
+      let s = sound-kept (r .plan) (g .shaped .plan) (sound-facts r (g .sound) .plan) .structure in
       sym (upper-found s (k - 1) (i - 1) (rw (row-at (i - 1)) a)) ∙ upper-found s (k - 1) (j - 1) (rw (row-at (j - 1)) b)
 
   -- and at most one lower
   one-lower : (i j : ℕ) → LowerOn r k i → LowerOn r k j → i - 1 ≡ j - 1
   one-lower i j a b =
-      let s = sound-kept (r .plan) (g .shaped .plan) (held r (g .sound) .plan) .structure in
+      let s = sound-kept (r .plan) (g .shaped .plan) (sound-facts r (g .sound) .plan) .structure in
       sym (lower-found s (k - 1) (i - 1) (rw (row-at (i - 1)) a)) ∙ lower-found s (k - 1) (j - 1) (rw (row-at (j - 1)) b)
 
   -- of two keys the lesser goes before, or the one of the lower task number at a tie
@@ -80,14 +81,15 @@ module _ (r : Record) (g : Good r) (k : ℕ) where
   -- the task with the least key goes first
   least-first : (j : ℕ) → 1 ≤ j → Least r k tasksLimit (j - 1) → GoesFirst r k j
   least-first j one c = (
-    (one, omega (arith, waits-in r (held r (g .sound)) (j - 1) k (c .within) (c .waiting)), c .waiting),
+    at-waits r k j one (omega (arith, waits-in r (sound-facts r (g .sound)) (j - 1) k (c .within) (c .waiting))) (c .waiting),
     λ i w n.
-        let h : i - 1 < tasksLimit = task-in r g (i - 1) (omega (arith, w .0, w .1)) in
-        by-key j i (λ e. n (omega (arith, w .0)))
+        let h : i - 1 < tasksLimit = task-in r g (i - 1) (omega (arith, w .from, w .to)) in
+        let v = waits-at r k i w in
+        by-key j i (λ e. n (omega (arith, w .from)))
         (waits-keyed r g k (j - 1) (c .within) (c .waiting))
-        (waits-keyed r g k (i - 1) h (w .2))
-        (c .least (i - 1) h (w .2))
-        (λ l. c .lowest (i - 1) (omega (arith, w .0)) (w .2)),
+        (waits-keyed r g k (i - 1) h v)
+        (c .least (i - 1) h v)
+        (λ l. c .lowest (i - 1) (omega (arith, w .from)) v),
   )
 
   -- its key says what is answered
@@ -102,7 +104,7 @@ module _ (r : Record) (g : Good r) (k : ℕ) where
   -- so for each outcome of the search
   by-search : (task d : ℕ) → Found r k tasksLimit task d → Chosen r k (choiceFor r (record { task = task; key = d }))
   unfolding choiceFor
-  by-search zero d f = idle (λ i w. false≢true (cc (f (i - 1) (task-in r g (i - 1) (omega (arith, w .0, w .1))), w .2)))
+  by-search zero d f = idle (λ i w. false≢true (cc (f (i - 1) (task-in r g (i - 1) (omega (arith, w .from, w .to))), waits-at r k i w)))
   by-search (suc j) d f =
       let back : j ≡ suc j - 1 = omega arith in
       let c = subst (λ (x : ℕ). Least r k tasksLimit x) back (f .1) in
@@ -171,8 +173,9 @@ module _ (r : Record) (k : ℕ) where
 
 -- an accepted look answers it, and no other
 pub look-exactly : (r : Record) → Good r → (k : ℕ) (t : Ticks) → callRefusal r (Look k t) ≡ 0 → (x : Choice)
-    → (answeredOf r (Look k t) .answer ≡ Looked x) ↔ Chosen r k x
+    → (answeredOf r (Look k t) .answer ≡ Looked x) ↔ Chosen (atTime r (t .0)) k x
 look-exactly r g k t e x =
     let q = look-taken r k (t .0) (sym (sym (look-no r k t) ∙ e)) refl refl in
+    let now = choice-chosen (atTime r (t .0)) (timed-good r g (t .0) (look-passed r k (t .0) (sym (look-no r k t) ∙ e) .limit)) k in
     rw (answeredOf, q)
-    (λ a. subst (Chosen r k) (cc) (choice-chosen r g k), λ c. ap Looked (chosen-one r k (choice-chosen r g k) c))
+    (λ a. subst (Chosen (atTime r (t .0)) k) (cc) now, λ c. ap Looked (chosen-one (atTime r (t .0)) k now c))

@@ -19,7 +19,7 @@ use Rattle.dispatch.specs.Sound.{stateOk}
 use Rattle.dispatch.specs.Shape.{Good}
 use Rattle.planning.specs.Shape.{PlanShaped}
 use Rattle.soundness.proofs.Lined.{lined}
-use Rattle.dispatch.proofs.Held.{held, sound}
+use Rattle.dispatch.proofs.SoundFacts.{sound-facts, sound}
 
 module _ (pl : Plan) where
   -- each task is fresh
@@ -52,4 +52,4 @@ module _ (pl : Plan) where
   -- and only so
   pub fresh-exactly : Good (recordOf pl) ↔ (PlanShaped pl × (planSound pl ≡ true))
   unfolding recordOf
-  fresh-exactly = (λ g. (g .shaped .plan, held (recordOf pl) (g .sound) .plan), λ s. fresh-good (s .0) (s .1))
+  fresh-exactly = (λ g. (g .shaped .plan, sound-facts (recordOf pl) (g .sound) .plan), λ s. fresh-good (s .0) (s .1))

@@ -15,7 +15,8 @@ use Rattle.turn.specs.Choice.{RunGoesTo}
 use Rattle.turn.proofs.Choice.{some-share}
 use Rattle.turn.proofs.SincePlan.{turn-goes, goes-among, goes-to-one}
 use Rattle.task_state.specs.declared.State.{State}
-use Rattle.task_state.specs.Runs.{turnAt, takenRun}
+use Rattle.task_state.specs.Due.{releaseAt}
+use Rattle.task_state.specs.Runs.{turnAt, dueAt, takenRun}
 use Rattle.task_state.proofs.Facts.{facts, turnable}
 use Rattle.dispatch.specs.declared.Record.{Record}
 use Rattle.dispatch.specs.declared.call.Call.the-variants.{Release}
@@ -23,7 +24,7 @@ use Rattle.dispatch.specs.declared.call.Answer.the-variants.{Released}
 use Rattle.dispatch.specs.Record.{lineAt, stateAt}
 use Rattle.dispatch.specs.Shape.{Good}
 use Rattle.dispatch.specs.Calls.{answeredOf, callRefusal}
-use Rattle.dispatch.proofs.Held.{held}
+use Rattle.dispatch.proofs.SoundFacts.{sound-facts}
 use Rattle.dispatch.proofs.Records.{task-lined, task-wide, task-shaped, task-sound}
 use Rattle.dispatch.proofs.Passed.{release-passed}
 use Rattle.dispatch.proofs.Answers.{release-taken}
@@ -40,7 +41,7 @@ module _ (r : Record) (g : Good r) (i : ℕ) where
   -- a run goes to one of the M cores: only they have shares
   pub on-cores : (t : ℕ) (n : ℕ → ℕ) (p : ℕ) → RunGoesTo w t s n coresLimit p → RunGoesTo w t s n (r .plan .cores) p
   on-cores t n p a =
-      let k = sound-kept (r .plan) (g .shaped .plan) (held r (g .sound) .plan) in
+      let k = sound-kept (r .plan) (g .shaped .plan) (sound-facts r (g .sound) .plan) in
       let row = List·getD-map rowOf (r .plan .lines) (i - 1) noLine in
       let there = share-core (k .structure) (i - 1) (p - 1) (rw row (some-share (n p * w) (s p) t (a .opened))) in
       goes-among w t s n coresLimit (r .plan .cores) p (k .cores-few) (omega (arith, there, a .from)) a
@@ -67,11 +68,11 @@ module _ (r : Record) (g : Good r) (i : ℕ) where
     -- is answered, with the deadline, and no other
     pub release-exactly : (p : ℕ) (d : Ticks)
         → (answeredOf r (Release i t) .answer ≡ Released p d)
-        ↔ (RunGoesTo w (st .place) s n (r .plan .cores) p × (d ≡ ticks (t .0 + taskLine (r .plan) i .period .0)))
+        ↔ (RunGoesTo w (st .place) s n (r .plan .cores) p × (d ≡ ticks (releaseAt (taskLine (r .plan) i) st (t .0) + taskLine (r .plan) i .period .0)))
     unfolding takenRun
     release-exactly p d =
         let core = turnAt (lineAt r (i - 1)) st .core in
-        let due = ticks (t .0 + taskLine (r .plan) i .period .0) in
+        let due = ticks (dueAt (taskLine (r .plan) i) st (t .0)) in
         let q = release-taken r i (t .0) (sym (sym (release-no r i t) ∙ e)) refl refl in
         rw (answeredOf, q) (
           λ (a : Released core due ≡ Released p d).

@@ -2,9 +2,10 @@
 use Prim.Native.Nat.{ℕ, _-_}
 use mathlib.Core.Path.{_≡_, refl}
 use native.Mathlib.Decide.{ℕ-discrete}
+use Rattle.task_state.specs.Due.{releaseAt}
 use Rattle.task_state.specs.Runs.{withRun, takenRun, withoutRun}
 use Rattle.task_state.proofs.Facts.{facts, turnable}
-use Rattle.task_state.proofs.Passed.{has-room}
+use Rattle.task_state.proofs.Passed.{release-in, has-room}
 use Rattle.task_state.proofs.Taken.{with-shaped, with-sound}
 use Rattle.task_state.proofs.Ended.{without-shaped, without-sound}
 use Rattle.dispatch.specs.declared.Record.{Record}
@@ -30,6 +31,7 @@ module _ (r : Record) (i t : ℕ) (g : Good r) where
           let p = release-passed r i t e in
           let ln = lineAt r (i - 1) in
           let st = stateAt r (i - 1) in
+          let x = releaseAt ln st t in
           let h = p .0 .here in
           let l = task-lined r g (i - 1) h in
           let wide = task-wide r g (i - 1) h in
@@ -38,9 +40,9 @@ module _ (r : Record) (i t : ℕ) (g : Good r) where
           let f = facts ln st s in
           let turn = turnable ln st f (l .small) (l .shares) in
           rw (release-taken r i t refl e refl)
-          (moved-good r g (i - 1) h (withRun ln st t) t (p .0 .limit)
-          (with-shaped ln st t wide sh turn)
-          (with-sound ln st t wide sh turn (has-room ln st t (p .1) (f .few)) (p .0 .limit) s))
+          (moved-good r g (i - 1) h (withRun ln st x) t (p .0 .limit)
+          (with-shaped ln st x wide sh turn)
+          (with-sound ln st x wide sh turn (has-room ln st t (p .1) (f .few)) (release-in ln st t (p .1)) s))
 
   -- a finish
   pub finish-good : Good (finishOf r i t .next)

@@ -1,4 +1,4 @@
-pub mod Held
+pub mod SoundFacts
 pub mod Passed
 pub mod Called
 pub mod Looking
@@ -7,6 +7,7 @@ pub mod Records
 pub mod Runs
 pub mod Answers
 pub mod OneCall
+pub mod ReleaseTime
 pub mod Exactly
 pub mod Keeps
 pub mod Always
@@ -23,7 +24,6 @@ pub mod Demand3
 pub mod Search
 pub mod Waiting
 pub mod Choice
-pub mod Example
 pub mod Started
 pub mod Values
 pub mod Settled

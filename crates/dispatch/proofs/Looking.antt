@@ -18,18 +18,19 @@ use Rattle.dispatch.specs.Record.{lineAt, stateAt}
 use Rattle.core_choice.specs.Choice.{betterTask, choiceBy}
 use Rattle.core_choice.specs.Told.{toldOf}
 use Rattle.dispatch.specs.Look.{bestOf, choiceFor, choiceOf}
-use Rattle.dispatch.proofs.Held.{Held, waits-in}
+use Rattle.dispatch.proofs.SoundFacts.{SoundFacts, waits-in}
 use Rattle.dispatch.proofs.Search.{Found, found}
 
 -- one task more
-pub best-more : (r : Record) (k n : ℕ) {b x : Best} → b ≡ bestOf r k n → x ≡ betterTask b (n + 1) (lineAt r n) (stateAt r n) k → x ≡ bestOf r k (n + 1)
+pub best-more : (r : Record) (k n : ℕ) {b x : Best} → b ≡ bestOf r k n → x ≡ betterTask b (n + 1) (lineAt r n) (stateAt r n) k (r .clock .0)
+    → x ≡ bestOf r k (n + 1)
 unfolding bestOf
 best-more r k n e q = rw (add-one n, ← e) (rw (add-one n) at q)
 
-module _ (r : Record) (s : Held r) (k : ℕ) where
+module _ (r : Record) (s : SoundFacts r) (k : ℕ) where
   -- past the N tasks none waits
-  none-waits : (i : ℕ) → r .plan .count ≤ i → i < tasksLimit → waits (stateAt r i) k ≡ false
-  none-waits i h l = by-cases (waits (stateAt r i) k) (λ w. absurd (omega (arith, waits-in r s i k l w))) (λ w. w)
+  none-waits : (i : ℕ) → r .plan .count ≤ i → i < tasksLimit → waits (lineAt r i) (stateAt r i) k (r .clock .0) ≡ false
+  none-waits i h l = by-cases (waits (lineAt r i) (stateAt r i) k (r .clock .0)) (λ w. absurd (omega (arith, waits-in r s i k l w))) (λ w. w)
 
   -- so none is better
   best-past : (n : ℕ) → r .plan .count ≤ n → n ≤ tasksLimit → bestOf r k n ≡ bestOf r k (r .plan .count)

@@ -71,6 +71,6 @@ module _ (r : Record) (i t : ℕ) where
   release-passed e = let p = both (releaseTests (lineAt r (i - 1)) (stateAt r (i - 1)) t) e in (task-passed (p .0), p .1)
 
   -- a finish
-  pub finish-passed : finishRefusal r i t ≡ 0 → Passed r (r .plan .count) i t × (finishTests (stateAt r (i - 1)) ≡ 0)
+  pub finish-passed : finishRefusal r i t ≡ 0 → Passed r (r .plan .count) i t × (finishTests (lineAt r (i - 1)) (stateAt r (i - 1)) t ≡ 0)
   unfolding finishRefusal
-  finish-passed e = let p = both (finishTests (stateAt r (i - 1))) e in (task-passed (p .0), p .1)
+  finish-passed e = let p = both (finishTests (lineAt r (i - 1)) (stateAt r (i - 1)) t) e in (task-passed (p .0), p .1)

@@ -16,7 +16,7 @@ use Rattle.dispatch.specs.declared.Record.{Record}
 use Rattle.dispatch.specs.Record.{lineAt, stateAt, moved}
 use Rattle.dispatch.specs.Look.{atTime}
 use Rattle.task_state.specs.Shape.{Shaped as StateShaped}
-use Rattle.dispatch.proofs.Held.{held, sound, state-sound, task-below}
+use Rattle.dispatch.proofs.SoundFacts.{sound-facts, sound, state-sound, task-below}
 use Rattle.dispatch.specs.Shape.{Good}
 use Rattle.dispatch.proofs.Stored.{stored}
 use Rattle.soundness.proofs.Lined.{Lined, lined}
@@ -25,11 +25,11 @@ module _ (r : Record) (g : Good r) where
   module _ (i : ℕ) (h : i < r .plan .count) where
     -- a task's number is below the limit
     pub task-in : i < tasksLimit
-    task-in = task-below r (held r (g .sound)) i h
+    task-in = task-below r (sound-facts r (g .sound)) i h
 
     -- what is known of its line
     pub task-lined : Lined (lineAt r i)
-    task-lined = lined (r .plan) (g .shaped .plan .lines) (held r (g .sound) .plan) i h
+    task-lined = lined (r .plan) (g .shaped .plan .lines) (sound-facts r (g .sound) .plan) i h
 
     -- its row has sixteen shares
     pub task-wide : length (rowOf (lineAt r i)) ≡ coresLimit
@@ -41,7 +41,7 @@ module _ (r : Record) (g : Good r) where
 
     -- and is sound
     pub task-sound : stateSound (lineAt r i) (stateAt r i) ≡ true
-    task-sound = state-sound r (held r (g .sound)) i h
+    task-sound = state-sound r (sound-facts r (g .sound)) i h
 
     -- one task's state moves on
     pub moved-good : (st : State) (t : ℕ) → t ≤ clockLimit → StateShaped st → stateSound (lineAt r i) st ≡ true → Good (moved r i st t)
@@ -55,12 +55,12 @@ module _ (r : Record) (g : Good r) where
           };
           sound = sound (moved r i st t) (record {
             clock = now;
-            plan = held r (g .sound) .plan;
+            plan = sound-facts r (g .sound) .plan;
             states =
                 stored (r .states) i st noState l
                 (λ j u. j < tasksLimit → cond (ltb j (r .plan .count)) (stateSound (lineAt r j) u) (stateEmpty u) ≡ true)
                 (λ m. rw (lt-ltb i (r .plan .count) h) s)
-                (λ j n m. held r (g .sound) .states j m);
+                (λ j n m. sound-facts r (g .sound) .states j m);
           });
         }
 
@@ -68,5 +68,5 @@ module _ (r : Record) (g : Good r) where
   pub timed-good : (t : ℕ) → t ≤ clockLimit → Good (atTime r t)
   timed-good t now = record {
     shaped = record { plan = g .shaped .plan; states = g .shaped .states; each = g .shaped .each };
-    sound = sound (atTime r t) (record { clock = now; plan = held r (g .sound) .plan; states = held r (g .sound) .states });
+    sound = sound (atTime r t) (record { clock = now; plan = sound-facts r (g .sound) .plan; states = sound-facts r (g .sound) .states });
   }

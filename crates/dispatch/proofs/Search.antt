@@ -14,9 +14,9 @@ use Rattle.core_choice.specs.declared.Best.{Best}
 use Rattle.dispatch.specs.Record.{lineAt, stateAt}
 use Rattle.dispatch.specs.Look.{bestOf}
 
--- task i's oldest unfinished run is on core k
+-- task i's oldest unfinished run is on core k and released
 abbrev pub WaitsAt : Record → ℕ → ℕ → Type 0
-WaitsAt r k i = waits (stateAt r i) k ≡ true
+WaitsAt r k i = waits (lineAt r i) (stateAt r i) k (r .clock .0) ≡ true
 
 -- its key there
 abbrev pub keyAt : Record → ℕ → ℕ → ℕ
@@ -31,7 +31,7 @@ pub record Least (r : Record) (k n j : ℕ) : Type 0 where
 
 -- after n tasks, by the task that was found, from 1, and its key
 abbrev pub Found : Record → ℕ → ℕ → ℕ → ℕ → Type 0
-Found r k n zero d = (i : ℕ) → i < n → waits (stateAt r i) k ≡ false
+Found r k n zero d = (i : ℕ) → i < n → waits (lineAt r i) (stateAt r i) k (r .clock .0) ≡ false
 Found r k n (suc j) d = (d ≡ keyAt r k j) × Least r k n j
 
 module _ (r : Record) (k : ℕ) where
@@ -54,7 +54,7 @@ module _ (r : Record) (k : ℕ) where
   }
 
   -- and so by the two tests of the definition
-  found-one : (n task d : ℕ) (w l : Bool) → waits (stateAt r n) k ≡ w → ltb (keyAt r k n) d ≡ l → Found r k n task d
+  found-one : (n task d : ℕ) (w l : Bool) → waits (lineAt r n) (stateAt r n) k (r .clock .0) ≡ w → ltb (keyAt r k n) d ≡ l → Found r k n task d
       → let b : Best = cond (w && (eqb task 0 || l)) (record { task = suc n; key = keyAt r k n }) (record { task = task; key = d }) in
       Found r k (n + 1) (b .task) (b .key)
   found-one n zero d false l p q f = below-more _ n f p
@@ -70,5 +70,5 @@ module _ (r : Record) (k : ℕ) where
   unfolding bestOf
   found zero = λ i l. absurd (omega arith)
   found (suc n) =
-      rw (add-one n) at (found-one n (bestOf r k n .task) (bestOf r k n .key) (waits (stateAt r n) k)
+      rw (add-one n) at (found-one n (bestOf r k n .task) (bestOf r k n .key) (waits (lineAt r n) (stateAt r n) k (r .clock .0))
       (ltb (keyAt r k n) (bestOf r k n .key)) refl refl (found n))

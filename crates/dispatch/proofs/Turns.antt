@@ -18,6 +18,7 @@ use Rattle.turn.specs.declared.Turn.{Turn}
 use Rattle.turn.specs.Runs.{turnAfter as afterRuns, coreOfRun}
 use Rattle.task_state.specs.declared.State.{State}
 use Rattle.task_state.specs.State.{freshState, noState}
+use Rattle.task_state.specs.Due.{releaseAt}
 use Rattle.task_state.specs.Runs.{turnAt, withRun, takenRun, withoutRun}
 use Rattle.dispatch.specs.declared.Record.{Record}
 use Rattle.dispatch.specs.declared.call.Call.{Call}
@@ -135,16 +136,17 @@ module _ (i : ℕ) (ln : Line) (r : Record) (n : ℕ) (h : Here i ln r n) where
         rw (ne-eqb j i d),
         here-on (Release j t) n
             (rw (step, answeredOf, release-taken r j (t .0) refl e refl)
-            (other-at (j - 1) (t .0) (withRun (lineAt r (j - 1)) (stateAt r (j - 1)) (t .0))
+            (other-at (j - 1) (t .0) (withRun (lineAt r (j - 1)) (stateAt r (j - 1)) (releaseAt (lineAt r (j - 1)) (stateAt r (j - 1)) (t .0)))
             (λ q. d (omega (arith, release-passed r j (t .0) e .0 .from, h .from))))),
       )
       go (yes e) (yes d) = inr (
         rw (eq-eqb j i d, release-answer r j (t .0), eq-eqb (releaseRefusal r j (t .0)) 0 e, release-taken r j (t .0) refl e refl, d, h .line)
             (ap (λ (k : ℕ). k ∷ []) (at-core ln (stateAt r (i - 1)) n (h .turns))),
         here-on (Release j t) (suc n)
-            (let st = withRun (lineAt r (i - 1)) (stateAt r (i - 1)) (t .0) in
+            (let at = releaseAt (lineAt r (i - 1)) (stateAt r (i - 1)) (t .0) in
+            let st = withRun (lineAt r (i - 1)) (stateAt r (i - 1)) at in
             rw (step, answeredOf, release-taken r j (t .0) refl e refl, d, getD-set-same (r .states) (i - 1) st noState inside, h .line)
-            (at-release ln (stateAt r (i - 1)) n (h .turns) (t .0))),
+            (at-release ln (stateAt r (i - 1)) n (h .turns) (releaseAt ln (stateAt r (i - 1)) (t .0)))),
       )
 
   -- every call

@@ -17,13 +17,14 @@ use Rattle.task_shares.proofs.Words.{upper-moves}
 use Rattle.planning.specs.declared.Line.{Line}
 use Rattle.planning.specs.Plan.{rowOf}
 use Rattle.task_state.specs.declared.State.{State}
-use Rattle.task_state.specs.State.{runAt}
 use Rattle.task_state.specs.Key.{deadlineOf, keyOf}
 use Rattle.task_state.proofs.Facts.{facts, unfinished}
+use Rattle.task_state.proofs.Waits.{waits-told, told-waits}
 use Rattle.dispatch.specs.declared.Record.{Record}
 use Rattle.dispatch.specs.Record.{lineAt, stateAt}
 use Rattle.dispatch.specs.Shape.{Good}
-use Rattle.dispatch.proofs.Held.{held, waits-in}
+use Rattle.dispatch.specs.Choice.{Waits}
+use Rattle.dispatch.proofs.SoundFacts.{sound-facts, waits-in}
 use Rattle.dispatch.proofs.Records.{task-sound}
 use Rattle.dispatch.proofs.Search.{WaitsAt}
 
@@ -92,11 +93,23 @@ module _ (r : Record) (g : Good r) (k i : ℕ) (h : i < tasksLimit) (w : WaitsAt
   waits-share =
       let ln = lineAt r i in
       let st = stateAt r i in
-      let core = runAt st 0 .core in
-      let live = ltb-true 0 (st .live) (and-left (ltb 0 (st .live)) (eqb core k) w) in
-      let e = eqb-true core k (and-right (ltb 0 (st .live)) (eqb core k) w) in
-      lt-ltb 0 (getD (rowOf ln) (k - 1) 0) (rw e at (unfinished ln st (facts ln st (task-sound r g i (waits-in r (held r (g .sound)) i k h w))) 0 live .share))
+      let t = waits-told ln st k (r .clock .0) w in
+      let f = facts ln st (task-sound r g i (waits-in r (sound-facts r (g .sound)) i k h w)) in
+      lt-ltb 0 (getD (rowOf ln) (k - 1) 0) (rw (t .there) at (unfinished ln st f 0 (t .unfinished) .share))
 
   -- and a key there
   pub waits-keyed : Keyed (lineAt r i) (stateAt r i) k
   waits-keyed = keyed (lineAt r i) (stateAt r i) k waits-share
+
+module _ (r : Record) (k i : ℕ) where
+  -- a task that waits, in words, is one that the search finds waiting
+  pub waits-at : Waits r k i → WaitsAt r k (i - 1)
+  waits-at w =
+      told-waits (lineAt r (i - 1)) (stateAt r (i - 1)) k (r .clock .0)
+      (record { unfinished = w .unfinished; there = w .there; released = w .released })
+
+  -- and one that it finds waits, if it is one of the N tasks
+  pub at-waits : 1 ≤ i → i ≤ r .plan .count → WaitsAt r k (i - 1) → Waits r k i
+  at-waits from to w =
+      let t = waits-told (lineAt r (i - 1)) (stateAt r (i - 1)) k (r .clock .0) w in
+      record { from = from; to = to; unfinished = t .unfinished; there = t .there; released = t .released }

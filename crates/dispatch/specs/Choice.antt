@@ -1,20 +1,26 @@
--- Each core's choice, in the words of document 01. Tasks and cores are counted from 1.
+-- Each core's choice at a record's clock, in the words of documents 01 and 02, R-2. Tasks and cores are counted from 1.
 use Prim.Native.Nat.{ℕ, _-_, _≤_, _<_}
 use mathlib.Core.Path.{_≡_}
 use mathlib.Core.Bool.{true}
 use Rattle.units.specs.Units.{ticks}
 use Rattle.task_shares.specs.Movers.{fixedOn, movesOn, lower, upper}
 use Rattle.planning.specs.Tasks.{taskShares}
-use Rattle.task_state.specs.Key.{deadlineOf, waits}
+use Rattle.task_state.specs.State.{runAt}
+use Rattle.task_state.specs.Key.{deadlineOf}
 use Rattle.dispatch.specs.declared.Record.{Record}
 use Rattle.core_choice.specs.declared.Side.the-variants.{Upper, Lower}
 use Rattle.core_choice.specs.declared.Choice.{Choice}
 use Rattle.core_choice.specs.declared.Choice.the-variants.{Idle, Fixed, Mover}
 use Rattle.dispatch.specs.Record.{stateAt}
+use Rattle.dispatch.specs.Given.{taskState, oldestRelease}
 
--- task i is one of the N tasks, and its oldest unfinished run is on core k
-abbrev pub Waits : Record → ℕ → ℕ → Type 0
-Waits r k i = (1 ≤ i) × (i ≤ r .plan .count) × (waits (stateAt r (i - 1)) k ≡ true)
+-- task i is one of the N tasks, and its oldest unfinished run is on core k and released
+pub record Waits (r : Record) (k i : ℕ) : Type 0 where
+  pub from : 1 ≤ i
+  pub to : i ≤ r .plan .count
+  pub unfinished : 0 < taskState r i .live
+  pub there : runAt (taskState r i) 0 .core ≡ k
+  pub released : oldestRelease r i ≤ r .clock .0
 
 -- the deadline of that run
 abbrev pub deadlineAt : Record → ℕ → ℕ

@@ -1,4 +1,5 @@
--- The rows of document 01, "Refusal numbers", that a release, a finish or a look can meet, in the order in which they are tested. Tasks and cores are from 1.
+-- The rows of document 01, "Refusal numbers", that a release, a finish or a look can meet, in the order of their tests, with document 02, R-2.
+-- Tasks and cores are from 1.
 use Prim.Native.Nat.{ℕ, _+_, _-_, _<_}
 use mathlib.Core.Path.{_≡_}
 use mathlib.Core.Logic.{_⊎_}
@@ -6,6 +7,7 @@ use mathlib.Core.Bool.{false}
 use Rattle.units.specs.declared.ticks.Ticks.{Ticks}
 use Rattle.planning.specs.Tasks.{taskLine}
 use Rattle.task_state.specs.declared.State.{State}
+use Rattle.task_state.specs.State.{runAt}
 use Rattle.dispatch.specs.declared.Record.{Record}
 use Rattle.dispatch.specs.declared.call.Call.{Call}
 use Rattle.dispatch.specs.declared.call.Call.the-variants.{Release, Finish, Look}
@@ -42,9 +44,25 @@ Over t = 1000000000000 < t .0
 abbrev pub Past : Record → Ticks → Type 0
 Past r t = t .0 < r .clock .0
 
--- a release of task i is less than T after its last accepted release
+-- the last release time of task i plus T
+abbrev pub nextRelease : Record → ℕ → ℕ
+nextRelease r i = taskState r i .last .0 + taskLine (r .plan) i .period .0
+
+-- a release of task i is early: less than T after its last one
 abbrev pub Early : Record → ℕ → Ticks → Type 0
-Early r i t = (taskState r i .had ≡ 1) × (t .0 < taskState r i .last .0 + taskLine (r .plan) i .period .0)
+Early r i t = (taskState r i .had ≡ 1) × (t .0 < nextRelease r i)
+
+-- it is held until a release time above the clock's limit
+abbrev pub HeldOver : Record → ℕ → Ticks → Type 0
+HeldOver r i t = Early r i t × (1000000000000 < nextRelease r i)
+
+-- the release time of task i's oldest unfinished run: its deadline less T
+abbrev pub oldestRelease : Record → ℕ → ℕ
+oldestRelease r i = runAt (taskState r i) 0 .deadline .0 - taskLine (r .plan) i .period .0
+
+-- that run is held at time t
+abbrev pub OldestHeld : Record → ℕ → Ticks → Type 0
+OldestHeld r i t = t .0 < oldestRelease r i
 
 -- n runs of task i are unfinished
 abbrev pub Unfinished : Record → ℕ → ℕ → Type 0
@@ -57,7 +75,7 @@ Given r (Release i t) =
     else 7 if Out (r .plan .count) i
     else 12 if Over t
     else 8 if Past r t
-    else 9 if Early r i t
+    else 12 if HeldOver r i t
     else 10 if Unfinished r i 8
     else none
 Given r (Finish i t) =
@@ -65,7 +83,7 @@ Given r (Finish i t) =
     else 7 if Out (r .plan .count) i
     else 12 if Over t
     else 8 if Past r t
-    else 11 if Unfinished r i 0
+    else 11 if Unfinished r i 0 ⊎ OldestHeld r i t
     else none
 Given r (Look k t) =
     15 if Unsound r

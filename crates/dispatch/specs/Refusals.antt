@@ -17,10 +17,10 @@ taskTests r i t = sharedTests (soundOf r) taskNo (r .plan .count) i (r .clock .0
 unfoldable pub lookRefusal : Record → ℕ → ℕ → ℕ
 lookRefusal r k t = sharedTests (soundOf r) coreNo (r .plan .cores) k (r .clock .0) t
 
--- the first that applies to a release: 15, 7, 12, 8, 9, 10
+-- the first that applies to a release: 15, 7, 12, 8, 12 for its release time, 10
 unfoldable pub releaseRefusal : Record → ℕ → ℕ → ℕ
 releaseRefusal r i t = cond (eqb (taskTests r i t) 0) (releaseTests (lineAt r (i - 1)) (stateAt r (i - 1)) t) (taskTests r i t)
 
 -- to a finish: 15, 7, 12, 8, 11
 unfoldable pub finishRefusal : Record → ℕ → ℕ → ℕ
-finishRefusal r i t = cond (eqb (taskTests r i t) 0) (finishTests (stateAt r (i - 1))) (taskTests r i t)
+finishRefusal r i t = cond (eqb (taskTests r i t) 0) (finishTests (lineAt r (i - 1)) (stateAt r (i - 1)) t) (taskTests r i t)

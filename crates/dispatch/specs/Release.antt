@@ -1,11 +1,12 @@
--- Release: the run's core and its deadline, release time plus T.
-use Prim.Native.Nat.{ℕ, _+_, _-_}
+-- Release: the run's core and its deadline, from its release time on.
+use Prim.Native.Nat.{ℕ, _-_}
 use mathlib.Core.Bool.{cond}
 use lib.Dec.{eqb}
 use Rattle.units.specs.Units.{ticks}
 use Rattle.units.specs.Refusals.{orKept}
 use Rattle.units.specs.declared.ticks.Ticks.{Ticks}
-use Rattle.task_state.specs.Runs.{turnAt, withRun}
+use Rattle.task_state.specs.Due.{releaseAt}
+use Rattle.task_state.specs.Runs.{turnAt, dueAt, withRun}
 use Rattle.dispatch.specs.declared.Record.{Record}
 use Rattle.dispatch.specs.declared.release.Released.{Released}
 use Rattle.dispatch.specs.Record.{lineAt, stateAt, moved}
@@ -13,12 +14,15 @@ use Rattle.dispatch.specs.Refusals.{releaseRefusal}
 
 -- an accepted release of task i, from 1
 unfoldable pub takeRelease : Record → ℕ → ℕ → Released
-takeRelease r i t = record {
-  refusal = 0;
-  core = turnAt (lineAt r (i - 1)) (stateAt r (i - 1)) .core;
-  deadline = ticks (t + lineAt r (i - 1) .period .0);
-  next = moved r (i - 1) (withRun (lineAt r (i - 1)) (stateAt r (i - 1)) t) t;
-}
+takeRelease r i t =
+    let ln = lineAt r (i - 1) in
+    let st = stateAt r (i - 1) in
+    record {
+      refusal = 0;
+      core = turnAt ln st .core;
+      deadline = ticks (dueAt ln st t);
+      next = moved r (i - 1) (withRun ln st (releaseAt ln st t)) t;
+    }
 
 -- a refused one: every other number 0, the same record
 unfoldable pub refuseRelease : ℕ → Record → Released

@@ -31,8 +31,10 @@ impl Record {
         let mut by = late;
         if no == 0 {
             let i = task - 1;
+            let lines = self.plan.lines;
+            let line = lines[i];
             let state = self.states[i];
-            no = state.finish_tests();
+            no = state.finish_tests(line, time);
             if no == 0 {
                 let oldest = state.deadlines[0];
                 by = time.0 as i64 - oldest.0 as i64;

@@ -61,7 +61,7 @@ impl Record {
                 let line = lines[i];
                 let state = states[i];
                 i += 1;
-                best = better_task(best, i, line, state, core);
+                best = better_task(best, i, line, state, core, time);
             }
             if 0 < best.task {
                 let at = best.task - 1;

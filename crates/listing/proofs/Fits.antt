@@ -29,7 +29,7 @@ use Rattle.dispatch.specs.Sound.{soundOf}
 use Rattle.dispatch.specs.Shape.{Good}
 use Rattle.planning.specs.Shape.{PlanShaped}
 use Rattle.soundness.proofs.SoundKept.{sound-kept}
-use Rattle.dispatch.proofs.Held.{held}
+use Rattle.dispatch.proofs.SoundFacts.{sound-facts}
 use Rattle.listing.specs.Listed.{listingLimit, listedWhole, planListed, listedOf}
 use Rattle.writing.specs.Field.{field, lineEnd}
 use Rattle.listing.specs.Listing.{shareText, sharesText, headText, rowText, lateText, taskText, tasksText, listingText}
@@ -132,7 +132,7 @@ module _ (pl : Plan) (long : PlanShaped pl) (s : planSound pl ≡ true) where
 pub fits : (r : Record) → Good r → (room : ℕ) → listingLimit ≤ room → listedOf r room ≡ listedWhole (length (listingText (r .plan)))
 unfolding listedOf planListed
 fits r g room h =
-    let f = listing-length (r .plan) (g .shaped .plan) (held r (g .sound) .plan) in
+    let f = listing-length (r .plan) (g .shaped .plan) (sound-facts r (g .sound) .plan) in
     rw (g .sound, le-leb (length (listingText (r .plan))) room (omega (arith, f)))
 
 -- the length that is answered is small, refused or not
@@ -141,6 +141,6 @@ unfolding listedOf planListed
 listed-length r room long =
     by-cases (soundOf r)
     (λ e. by-cases (leb (length (listingText (r .plan))) room)
-    (λ h. rw (e, h) (listing-length (r .plan) long (held r e .plan)))
+    (λ h. rw (e, h) (listing-length (r .plan) long (sound-facts r e .plan)))
     (λ h. rw (e, h) (omega arith)))
     (λ e. rw e (omega arith))

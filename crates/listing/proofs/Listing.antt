@@ -27,7 +27,7 @@ use Rattle.soundness.proofs.PlannedLines.{zero-row}
 use Rattle.dispatch.specs.declared.Record.{Record}
 use Rattle.dispatch.specs.Shape.{Good}
 use Rattle.planning.specs.Shape.{PlanShaped}
-use Rattle.dispatch.proofs.Held.{held}
+use Rattle.dispatch.proofs.SoundFacts.{sound-facts}
 use Rattle.listing.specs.Listing.{headText, taskText, tasksText, listingText}
 use Rattle.listing.proofs.Digits.{field-cut}
 use Rattle.planning.proofs.Agreed.{line-same}
@@ -168,4 +168,4 @@ plan-determined p q f g s t e =
 -- so a sound record's listing says its plan
 pub record-determined : (r s : Record) → Good r → Good s → listingText (r .plan) ≡ listingText (s .plan) → r .plan ≡ s .plan
 record-determined r s f g e =
-    plan-determined (r .plan) (s .plan) (f .shaped .plan) (g .shaped .plan) (held r (f .sound) .plan) (held s (g .sound) .plan) e
+    plan-determined (r .plan) (s .plan) (f .shaped .plan) (g .shaped .plan) (sound-facts r (f .sound) .plan) (sound-facts s (g .sound) .plan) e

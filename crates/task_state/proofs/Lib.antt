@@ -5,5 +5,6 @@ pub mod Facts
 pub mod Passed
 pub mod Taken
 pub mod Ended
+pub mod Waits
 pub mod Fresh
 pub mod Settled

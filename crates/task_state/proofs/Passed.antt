@@ -1,41 +1,50 @@
 -- What holds of a task whose own refusals let a call pass.
 use Prim.Native.Nat.{ℕ, _≤_, _<_}
 use mathlib.Core.Path.{_≡_}
-use mathlib.Core.Bool.{false}
+use mathlib.Core.Bool.{false, _||_}
 use native.Mathlib.Omega.{arith}
-use borrow.Author.Tests.{eqb-false}
-use lib.Dec.{eqb}
-use Rattle.units.specs.Limits.{periodLimit, commonLimit, clockLimit, runsLimit}
+use borrow.Author.Tests.{eqb-false, ltb-false}
+use lib.Dec.{ltb, eqb}
+use Rattle.units.specs.Limits.{commonLimit, clockLimit, runsLimit}
 use Rattle.lists.specs.Lists.{total}
-use Rattle.lists.proofs.Tests.{by-cases}
+use Rattle.lists.proofs.Tests.{by-cases, or-false-left, or-false-right}
 use Rattle.planning.specs.declared.Line.{Line}
 use Rattle.planning.specs.Plan.{rowOf}
 use Rattle.task_state.specs.declared.State.{State}
-use Rattle.task_state.specs.Tests.{early, releaseTests, finishTests}
+use Rattle.task_state.specs.State.{runAt}
+use Rattle.task_state.specs.Due.{releaseAt, held}
+use Rattle.task_state.specs.Tests.{releaseTests, finishTests}
 use Rattle.task_state.specs.Inner.{Releasable}
 use Rattle.task_state.proofs.Facts.{Facts, turnable}
 
-module _ (ln : Line) (st : State) (t : ℕ) (e : releaseTests ln st t ≡ 0) where
-  -- a release is not early
-  pub not-early : early ln st t ≡ false
-  not-early = by-cases (early ln st t) (λ b. absurd (omega (arith, rw b at e))) (λ b. b)
+module _ (ln : Line) (st : State) (t : ℕ) where
+  module _ (e : releaseTests ln st t ≡ 0) where
+    -- a release's time is not above the clock's limit
+    in-range : ltb clockLimit (releaseAt ln st t) ≡ false
+    in-range = by-cases (ltb clockLimit (releaseAt ln st t)) (λ b. absurd (omega (arith, rw b at e))) (λ b. b)
 
-  -- and finds room for a run
-  pub has-room : st .live ≤ runsLimit → st .live < runsLimit
-  has-room h =
-      by-cases (eqb (st .live) runsLimit)
-      (λ b. absurd (omega (arith, rw (not-early, b) at e)))
-      (λ b. omega (arith, eqb-false (st .live) runsLimit b))
+    pub release-in : releaseAt ln st t ≤ clockLimit
+    release-in = ltb-false clockLimit (releaseAt ln st t) in-range
 
-  -- so it can be taken, where the plan's numbers are in range and the shares sum to the weight
-  pub releasable : Facts ln st → ln .weight .0 ≤ commonLimit → total (rowOf ln) ≡ ln .weight .0 → t ≤ clockLimit → ln .period .0 ≤ periodLimit
-      → Releasable ln st t
-  releasable f small shares time period =
-      record { turn = turnable ln st f small shares; room = has-room (f .few); time = time; period = period }
+    -- and it finds room for a run
+    pub has-room : st .live ≤ runsLimit → st .live < runsLimit
+    has-room h =
+        by-cases (eqb (st .live) runsLimit)
+        (λ b. absurd (omega (arith, rw (in-range, b) at e)))
+        (λ b. omega (arith, eqb-false (st .live) runsLimit b))
 
--- a finish finds a run
-pub has-run : (st : State) → finishTests st ≡ 0 → 0 < st .live
-has-run st e =
-    by-cases (eqb (st .live) 0)
-    (λ b. absurd (omega (arith, rw b at e)))
-    (λ b. omega (arith, eqb-false (st .live) 0 b))
+    -- so it can be taken, where the plan's numbers are in range and the shares sum to the weight
+    pub releasable : Facts ln st → ln .weight .0 ≤ commonLimit → total (rowOf ln) ≡ ln .weight .0 → t ≤ clockLimit → Releasable ln st t
+    releasable f small shares time =
+        record { turn = turnable ln st f small shares; room = has-room (f .few); time = time; last = f .last; released = release-in }
+
+  module _ (e : finishTests ln st t ≡ 0) where
+    -- a finish finds an oldest run, and that is not held
+    found : (eqb (st .live) 0 || held ln (runAt st 0) t) ≡ false
+    found = by-cases (eqb (st .live) 0 || held ln (runAt st 0) t) (λ b. absurd (omega (arith, rw b at e))) (λ b. b)
+
+    pub has-run : 0 < st .live
+    has-run = omega (arith, eqb-false (st .live) 0 (or-false-left (eqb (st .live) 0) (held ln (runAt st 0) t) found))
+
+    pub run-released : held ln (runAt st 0) t ≡ false
+    run-released = or-false-right (eqb (st .live) 0) (held ln (runAt st 0) t) found

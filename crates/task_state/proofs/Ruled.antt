@@ -16,6 +16,7 @@ use Rattle.planning.specs.declared.Line.{Line}
 use Rattle.stored_runs.specs.declared.Run.{Run}
 use Rattle.task_state.specs.declared.State.{State}
 use Rattle.task_state.specs.State.{runAt}
+use Rattle.task_state.specs.Due.{dueAfter}
 use Rattle.stored_runs.specs.Run.{runEmpty}
 use Rattle.task_state.specs.Sound.{runRule, runsSound, lastSound, stateSound, runsEmpty, stateEmpty}
 
@@ -29,7 +30,7 @@ placed-in r e =
     let few = leb (r .core) coresLimit in
     (ltb-true 0 (r .core) (and-left some few e), leb-true (r .core) coresLimit (and-right some few e))
 
--- `runRule` of a line with these shares, whose runs are due by the latest
+-- the rule of a line with these shares, whose runs are due by the latest
 abbrev pub ruleBy : List Share → ℕ → State → ℕ → Bool
 ruleBy ss latest st k =
     let r = runAt st k in
@@ -40,10 +41,15 @@ module _ (ln : Line) (st : State) (k : ℕ) where
   pub unplaced : k < st .live → placed (runAt st k) ≡ false → runRule ln st k ≡ false
   unplaced h e = rw (lt-ltb k (st .live) h, e)
 
-  -- an unfinished run on a core
-  pub unfinished : k < st .live → placed (runAt st k) ≡ true
-      → runRule ln st k ≡ (ltb 0 (getD (ln .shares) (runAt st k .core - 1) (share 0) .0) && leb (runAt st k .deadline .0) (clockLimit + ln .period .0))
-  unfinished h e = rw (lt-ltb k (st .live) h, e, nums-at (ln .shares) (runAt st k .core - 1))
+  module _ {latest : ℕ} (q : latest ≡ clockLimit + dueAfter ln) where
+    -- an unfinished run on a core
+    pub unfinished : k < st .live → placed (runAt st k) ≡ true
+        → runRule ln st k ≡ (ltb 0 (getD (ln .shares) (runAt st k .core - 1) (share 0) .0) && leb (runAt st k .deadline .0) latest)
+    unfinished h e = rw (lt-ltb k (st .live) h, e, nums-at (ln .shares) (runAt st k .core - 1), q)
+
+    -- each run's rule
+    pub rule-by : ruleBy (ln .shares) latest st k ≡ runRule ln st k
+    rule-by = rw q
 
   -- what stands past the unfinished
   pub past : st .live ≤ k → runRule ln st k ≡ runEmpty (runAt st k)

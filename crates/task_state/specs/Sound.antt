@@ -12,13 +12,14 @@ use Rattle.stored_runs.specs.declared.Run.{Run}
 use Rattle.stored_runs.specs.Run.{runEmpty}
 use Rattle.task_state.specs.declared.State.{State}
 use Rattle.task_state.specs.State.{runAt}
+use Rattle.task_state.specs.Due.{dueAfter}
 
 -- a stored run's core is one where its task has a share, and its deadline at most the clock's limit plus T
 abbrev pub runSound : Line → Run → Bool
 runSound ln run =
     ltb 0 (run .core) && leb (run .core) coresLimit
     && ltb 0 (getD (rowOf ln) (run .core - 1) 0)
-    && leb (run .deadline .0) (clockLimit + ln .period .0)
+    && leb (run .deadline .0) (clockLimit + dueAfter ln)
 
 -- the rule for the k-th run: sound if it is unfinished, else empty
 abbrev pub runRule : Line → State → ℕ → Bool

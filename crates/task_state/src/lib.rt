@@ -1,4 +1,5 @@
 // What a task is at, beside its line of the plan.
+mod due;
 pub mod key;
 pub mod rules;
 pub mod runs;

@@ -1,5 +1,6 @@
 // The rules of soundness for one task's state.
 use crate::State;
+use crate::due::due_after;
 use planning::Line;
 use stored_runs::Run;
 use units::limits::CLOCK;
@@ -43,7 +44,8 @@ impl State {
             return false;
         }
         let shares = line.shares;
-        let latest = CLOCK + line.period.0 as u64;
+        let after = due_after(line);
+        let latest = CLOCK + after.0 as u64;
         let mut k: usize = 0;
         while k < RUNS {
             let byte = self.cores[k];

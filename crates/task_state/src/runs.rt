@@ -1,6 +1,8 @@
 // A task's runs: one more, and the oldest ended.
 use crate::State;
+use crate::due::due_after;
 use planning::Line;
+use release_times::release_time;
 use turn::turn_of;
 use units::ticks::Ticks;
 ghost use mathlib.Core.Path.{_≡_};
@@ -16,7 +18,7 @@ pub struct Taken {
 }
 
 impl State {
-    // One run more, counted in the turn cycle.
+    // One run more, from its release time on, counted in the turn cycle.
     pub fn with_run(self, line: Line, time: Ticks) -> Taken
         requires { ⌜ Releasable line self (time .0) ⌝ }
         ensures { λ r. ⌜ r ≡ takenRun line self (time .0) ⌝ }
@@ -24,7 +26,11 @@ impl State {
         let shares = line.shares;
         let counts = self.counts;
         let turn = turn_of(line.weight, self.place, shares, counts);
-        let due = time.0 + line.period.0 as u64;
+        let last = self.last;
+        let period = line.period;
+        let released = release_time(self.had, last, period, time);
+        let after = due_after(line);
+        let due = released.0 + after.0 as u64;
         let deadline = Ticks(due);
         let core = turn.core;
         let counted = turn.counts;
@@ -32,7 +38,7 @@ impl State {
         let mut state = self;
         state.counts = counted;
         state.place = turn.place;
-        state.last = time;
+        state.last = released;
         state.deadlines[at] = deadline;
         state.cores[at] = core as u8;
         state.live = self.live + 1;

@@ -45,19 +45,15 @@ taskNo = 7
 abbrev pub pastNo : ℕ
 pastNo = 8
 
--- a release less than T after this task's last accepted release
-abbrev pub earlyNo : ℕ
-earlyNo = 9
-
 -- a release while 8 runs of the task are unfinished
 abbrev pub backlogNo : ℕ
 backlogNo = 10
 
--- finish of a task with no unfinished run
+-- finish of a task with no unfinished run, or whose oldest one is held
 abbrev pub noRunNo : ℕ
 noRunNo = 11
 
--- the call's time is above the clock's limit
+-- the call's time, or a release's held time, is above the clock's limit
 abbrev pub clockNo : ℕ
 clockNo = 12
 
@@ -104,7 +100,6 @@ theNumbers = record {
   weights = weightsNo;
   task = taskNo;
   past = pastNo;
-  early = earlyNo;
   backlog = backlogNo;
   norun = noRunNo;
   clock = clockNo;

@@ -27,13 +27,12 @@ impl Refusal {
     pub const TASK: u32 = 7;
     // The call's time is below the stored clock.
     pub const PAST: u32 = 8;
-    // A release less than T after the task's last accepted release.
-    pub const EARLY: u32 = 9;
+    // 9 stood for a release less than T after the task's last one: it is held now, and no call gives 9.
     // A release while 8 runs of the task are unfinished.
     pub const BACKLOG: u32 = 10;
-    // Finish of a task with no unfinished run.
+    // Finish of a task with no unfinished run, or whose oldest one is held.
     pub const NO_RUN: u32 = 11;
-    // The call's time is above the clock's limit.
+    // The call's time, or a release's held time, is above the clock's limit.
     pub const CLOCK: u32 = 12;
     // Core number 0 or above M.
     pub const CORE: u32 = 13;
@@ -60,7 +59,6 @@ pub struct Numbers {
     pub weights: u32,
     pub task: u32,
     pub past: u32,
-    pub early: u32,
     pub backlog: u32,
     pub norun: u32,
     pub clock: u32,
@@ -86,7 +84,6 @@ pub fn in_force() -> Numbers
         weights: Refusal::WEIGHTS,
         task: Refusal::TASK,
         past: Refusal::PAST,
-        early: Refusal::EARLY,
         backlog: Refusal::BACKLOG,
         norun: Refusal::NO_RUN,
         clock: Refusal::CLOCK,

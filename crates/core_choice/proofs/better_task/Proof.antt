@@ -14,11 +14,11 @@ use Rattle.core_choice.proofs.better_task.Statement.{statement}
 use Rattle.core_choice.proofs.better_task.Tie as tie
 
 -- of a task that waits the key decides, and the lower number at a tie
-module _ (b : Best) (i : ℕ) (ln : Line) (st : State) (k : ℕ) (w : waits st k ≡ true) {key : ℕ} (e : key ≡ keyOf ln st k) where
-  better : (eqb (b .task) 0 || ltb key (b .key)) ≡ true → record { task = i; key = key } ≡ betterTask b i ln st k
+module _ (b : Best) (i : ℕ) (ln : Line) (st : State) (k x : ℕ) (w : waits ln st k x ≡ true) {key : ℕ} (e : key ≡ keyOf ln st k) where
+  better : (eqb (b .task) 0 || ltb key (b .key)) ≡ true → record { task = i; key = key } ≡ betterTask b i ln st k x
   better t = rw (w, ← e, t)
 
-  no-better : (eqb (b .task) 0 || ltb key (b .key)) ≡ false → b ≡ betterTask b i ln st k
+  no-better : (eqb (b .task) 0 || ltb key (b .key)) ≡ false → b ≡ betterTask b i ln st k x
   no-better t = rw (w, ← e, t)
 
 waits-requires : tie.Need-waits-requires
@@ -29,25 +29,25 @@ returns : tie.Need-returns
 returns c = rw (sym (c .before .waits .ensures) ∙ not-true (c .before .waits .result) (c .if1 .taken))
 
 -- one that waits
-waiting : (c : tie.Else1) → let s = c .before .before .args in waits (s .state) (s .core) ≡ true
+waiting : (c : tie.Else1) → let s = c .before .before .args in waits (s .line) (s .state) (s .core) (s .time .0) ≡ true
 waiting c = sym (c .before .waits .ensures) ∙ not-false (c .before .waits .result) (c .if1 .left)
 
 key-requires : tie.Need-key-requires
-key-requires c κs = c .before .before .pre
+key-requires c κs = let p = c .before .before .pre in (p .0, p .1, p .2)
 
 -- is the best so far
 returns-2 : tie.Need-returns-2
 returns-2 c =
     let k = c .before .before .before in
     let s = k .before .before .before .args in
-    better (s .best) (s .task) (s .line) (s .state) (s .core) (waiting (k .before)) (k .key .ensures) (c .if2 .taken)
+    better (s .best) (s .task) (s .line) (s .state) (s .core) (s .time .0) (waiting (k .before)) (k .key .ensures) (c .if2 .taken)
 
 -- or it is not
 returns-3 : tie.Need-returns-3
 returns-3 c =
     let k = c .before .before .before in
     let s = k .before .before .before .args in
-    no-better (s .best) (s .task) (s .line) (s .state) (s .core) (waiting (k .before)) (k .key .ensures) (c .if2 .left)
+    no-better (s .best) (s .task) (s .line) (s .state) (s .core) (s .time .0) (waiting (k .before)) (k .key .ensures) (c .if2 .left)
 
 pub better-task-spec : {M : Type 1} → statement M
 better-task-spec = tie.close (tie.spec waits-requires returns key-requires returns-2 returns-3)

@@ -19,13 +19,13 @@ use Rattle.task_state.proofs.Facts.{Facts, facts, unfinished, past as past-runs
 use Rattle.dispatch.specs.declared.Record.{Record}
 use Rattle.dispatch.specs.Record.{lineAt, stateAt}
 use Rattle.dispatch.specs.Shape.{Shaped}
-use Rattle.dispatch.proofs.Held.{Held, state-sound}
+use Rattle.dispatch.proofs.SoundFacts.{SoundFacts, state-sound}
 use Rattle.demands.specs.Sound.{InRange, NoLine, NoRun, NoState, Sound}
 use Rattle.demands.proofs.Beneath.SoundPlan.{plan-numbers, multiple, least, exact, past-zero, weighs, core-kept, none-beyond, heavier}
 use Rattle.demands.proofs.Beneath.PlanSound.{plan-rule}
 use Rattle.demands.proofs.Beneath.SoundState.{every-run, empty-state, state-rule}
 
-module _ (r : Record) (long : Shaped r) (s : Held r) where
+module _ (r : Record) (long : Shaped r) (s : SoundFacts r) where
   -- the plan's numbers
   n : Numbers (r .plan)
   n = plan-numbers (r .plan) (long .plan) (s .plan)
@@ -107,5 +107,5 @@ module _ (r : Record) (long : Shaped r) (s : Held r) where
   }
 
 -- and they say that it is sound
-pub from-clauses : (r : Record) → Shaped r → Sound r → Held r
+pub from-clauses : (r : Record) → Shaped r → Sound r → SoundFacts r
 from-clauses r long x = record { clock = x .clock; plan = plan-rule r long x; states = state-rule r long x }

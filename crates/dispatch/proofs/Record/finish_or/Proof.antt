@@ -23,7 +23,7 @@ abbrev start : tie.Then1 → tie.Start
 start c = c .before .before .before .before
 
 abbrev passed : tie.After-finish-tests → tie.Then1
-passed c = c .before .before
+passed c = c .before .before .before .before
 
 abbrev taken : tie.After-struct-known2 → tie.Then2
 taken c = c .before .before .before
@@ -44,14 +44,20 @@ own c = c .finish-tests .ensures ∙ sym (known (passed c) .finish-number)
 sub-i : tie.Need-sub-i
 sub-i c = omega (arith, known c .from)
 
+mul-line : tie.Need-mul-line
+mul-line c = omega (arith, known (c .before) .below)
+
+array-copy-out-line : tie.Need-array-copy-out-line
+array-copy-out-line c = omega (arith, known (c .before) .below)
+
 mul-state : tie.Need-mul-state
-mul-state c = omega (arith, known c .below)
+mul-state c = omega (arith, known (c .before .before) .below)
 
 element-copy-out-state : tie.Need-element-copy-out-state
-element-copy-out-state c = omega (arith, known c .below)
+element-copy-out-state c = omega (arith, known (c .before .before) .below)
 
 finish-tests-requires : tie.Need-finish-tests-requires
-finish-tests-requires c κs = search needs
+finish-tests-requires c κs = known (c .before .before .before) .time-in
 
 element-copy-out-oldest : tie.Need-element-copy-out-oldest
 element-copy-out-oldest c = search needs
@@ -106,6 +112,8 @@ finish-or-spec =
     sound-requires
     shared-tests-requires
     sub-i
+    mul-line
+    array-copy-out-line
     mul-state
     element-copy-out-state
     finish-tests-requires

@@ -3,7 +3,7 @@ use Rattle.dispatch.proofs.Looking.{best-more, best-task, told-idle, to
 use Rattle.dispatch.proofs.Answers.{look-or-refused, look-or-taken}
 use Rattle.dispatch.proofs.Called.{CoreCall, core-call}
 use Rattle.core_choice.specs.Told.{toldOf}
-use Rattle.dispatch.specs.Look.{bestOf, choiceOf}
+use Rattle.dispatch.specs.Look.{bestOf, choiceOf, atTime}
 use Rattle.dispatch.specs.Refusals.{lookRefusal}
 use Rattle.units.specs.Limits.{tasksLimit}
 use native.Mathlib.Omega.{arith}
@@ -15,7 +15,7 @@ use Rattle.dispatch.proofs.Record.look_or.Statement.{statement}
 use Rattle.dispatch.proofs.Record.look_or.Tie as tie
 
 abbrev Inv-loop : tie.InvT-loop
-Inv-loop self core time sound cores no' chosen lines states count best₀ i₀ best i = (i ≤ count) × (best ≡ bestOf self core i)
+Inv-loop self core time sound cores no' chosen lines states count best₀ i₀ best i = (i ≤ count) × (best ≡ bestOf (atTime self (time .0)) core i)
 
 abbrev μ-loop : tie.MeasureT-loop
 μ-loop self core time sound cores no' chosen lines states count best₀ i₀ best i = count - i
@@ -43,7 +43,7 @@ unfolding lookRefusal
 own c = rw (c .before .before .sound .ensures) at (c .shared-tests .ensures)
 
 -- what is known if none applies
-known : (c : tie.Then1 Inv-loop μ-loop) → let s = start c .args in CoreCall (s .self) (s .core)
+known : (c : tie.Then1 Inv-loop μ-loop) → let s = start c .args in CoreCall (s .self) (s .core) (s .time .0)
 known c = core-call (start c .args .time .0) (sym (own (c .before)) ∙ c .if1 .taken)
 
 loop-holds : tie.Need-loop-holds Inv-loop μ-loop
@@ -69,7 +69,7 @@ better-task-requires : tie.Need-better-task-requires Inv-loop μ-loop
 better-task-requires c κs =
     let at = c .before .before .before in
     let k = known (passed at) in
-    (k .from, k .few, k .due (at .loop .i) (omega arith))
+    (k .from, k .few, k .due (at .loop .i) (omega arith), k .time)
 
 loop-less : tie.Need-loop-less Inv-loop μ-loop
 loop-less c = omega arith
@@ -78,10 +78,12 @@ loop-again : tie.Need-loop-again Inv-loop μ-loop
 loop-again c =
     let at = c .before .before .before .before in
     let s = start (passed at) .args in
-    (omega arith, best-more (s .self) (s .core) (at .loop .i) (at .loop .inv .1) (c .better-task .ensures))
+    (omega arith, best-more (atTime (s .self) (s .time .0)) (s .core) (at .loop .i) (at .loop .inv .1) (c .better-task .ensures))
 
 -- the best of all tasks
-found : (c : tie.After-loop Inv-loop μ-loop) → let s = start (passed (c .before)) .args in c .before .loop .best ≡ bestOf (s .self) (s .core) tasksLimit
+found : (c : tie.After-loop Inv-loop μ-loop)
+    → let s = start (passed (c .before)) .args in
+    c .before .loop .best ≡ bestOf (atTime (s .self) (s .time .0)) (s .core) tasksLimit
 found c =
     let k = passed (c .before) in
     let e : c .before .loop .i ≡ start k .args .self .plan .count = omega arith in
@@ -89,7 +91,7 @@ found c =
 
 -- is one of them
 found-below : (c : tie.After-loop Inv-loop μ-loop) → c .before .loop .best .task ≤ tasksLimit
-found-below c = let s = start (passed (c .before)) .args in best-task (s .self) (s .core) (found c)
+found-below c = let s = start (passed (c .before)) .args in best-task (atTime (s .self) (s .time .0)) (s .core) (found c)
 
 sub-at : tie.Need-sub-at Inv-loop μ-loop
 sub-at c = search needs
@@ -104,13 +106,15 @@ told-requires : tie.Need-told-requires Inv-loop μ-loop
 told-requires c κs = search needs
 
 -- the choice, whichever way it came
-chosen : (c : tie.Joined2 Inv-loop μ-loop) → let s = start (passed (c .before .before .before)) .args in c .if2 .chosen ≡ toldOf (choiceOf (s .self) (s .core))
+chosen : (c : tie.Joined2 Inv-loop μ-loop)
+    → let s = start (passed (c .before .before .before)) .args in
+    c .if2 .chosen ≡ toldOf (choiceOf (atTime (s .self) (s .time .0)) (s .core))
 chosen c =
     let s = start (passed (c .before .before .before)) .args in
     let e = found (c .before .before) in
     ⊎-elim
-    (λ t. t .4 ∙ told-by (s .self) (s .core) e (t .3 .ensures))
-    (λ t. t .1 ∙ told-idle (s .self) (s .core) e (omega (arith, t .0 .left)))
+    (λ t. t .4 ∙ told-by (atTime (s .self) (s .time .0)) (s .core) e (t .3 .ensures))
+    (λ t. t .1 ∙ told-idle (atTime (s .self) (s .time .0)) (s .core) e (omega (arith, t .0 .left)))
     (c .if2 .came)
 
 returns : tie.Need-returns Inv-loop μ-loop

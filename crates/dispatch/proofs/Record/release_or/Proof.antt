@@ -61,7 +61,7 @@ element-copy-out-state : tie.Need-element-copy-out-state
 element-copy-out-state c = omega (arith, known (c .before .before) .below)
 
 release-tests-requires : tie.Need-release-tests-requires
-release-tests-requires c κs = let k = known (c .before .before .before) in (k .last, k .period)
+release-tests-requires c κs = known (c .before .before .before) .last
 
 with-run-requires : tie.Need-with-run-requires
 with-run-requires c κs = known (passed (c .before)) .can-release (sym (c .before .release-tests .ensures) ∙ c .if2 .taken)

@@ -1,7 +1,7 @@
 -- `listing::listed::list` meets its contract.
 use mathlib.Core.Path.{sym, _∙_}
 use borrow.Author.Tests.{not-true, not-false}
-use Rattle.dispatch.proofs.Held.{held}
+use Rattle.dispatch.proofs.SoundFacts.{sound-facts}
 use Rattle.listing.proofs.Answers.{unsound, sound}
 use borrow.Author.Needs.{needs}
 use Rattle.listing.proofs.listed.list.Statement.{statement}
@@ -25,7 +25,7 @@ list-plan-requires : tie.Need-list-plan-requires
 list-plan-requires c κs =
     let i = c .before .before in
     let s = i .before .before .before in
-    held (s .args .from) (sym (i .before .sound .ensures) ∙ not-false (i .before .sound .result) (i .if1 .left)) .plan
+    sound-facts (s .args .from) (sym (i .before .sound .ensures) ∙ not-false (i .before .sound .result) (i .if1 .left)) .plan
 
 same-length : tie.Need-same-length
 same-length c = search needs

@@ -1,24 +1,34 @@
 -- `task_state::State::finish_tests` meets its contract.
-use mathlib.Core.Path.{_≡_}
-use borrow.Author.Tests.{eq-eqb, ne-eqb}
-use Rattle.units.specs.Refusals.{noRunNo}
-use Rattle.task_state.specs.declared.State.{State}
-use Rattle.task_state.specs.Tests.{finishTests}
+use mathlib.Core.Path.{_∙_}
+use borrow.Author.Needs.{needs}
 use Rattle.task_state.proofs.State.finish_tests.Statement.{statement}
 use Rattle.task_state.proofs.State.finish_tests.Tie as tie
 
--- 11 without a run, 0 with one
-none-left : (st : State) → st .live ≡ 0 → noRunNo ≡ finishTests st
-none-left st e = rw (eq-eqb (st .live) 0 e)
+element-copy-out-oldest : tie.Need-element-copy-out-oldest
+element-copy-out-oldest c = search needs
 
-some-left : (st : State) → (st .live ≡ 0 → ⊥) → 0 ≡ finishTests st
-some-left st e = rw (ne-eqb (st .live) 0 e)
+due-after-requires : tie.Need-due-after-requires
+due-after-requires c κs = search needs
+
+held-requires : tie.Need-held-requires
+held-requires c κs = search needs
+
+cast-finish-tests : tie.Need-cast-finish-tests
+cast-finish-tests c = search needs
+
+finish-tests-requires : tie.Need-finish-tests-requires
+finish-tests-requires c κs = search needs
 
 returns : tie.Need-returns
-returns c = none-left (c .before .before .args .self) (c .if1 .taken)
-
-returns-2 : tie.Need-returns-2
-returns-2 c = some-left (c .before .before .args .self) (c .if1 .left)
+returns c = c .finish-tests .ensures ∙ rw (c .before .held .ensures, c .before .before .due-after .ensures)
 
 pub finish-tests-spec : {M : Type 1} → statement M
-finish-tests-spec = tie.close (tie.spec returns returns-2)
+finish-tests-spec =
+    tie.close
+    (tie.spec
+    element-copy-out-oldest
+    due-after-requires
+    held-requires
+    cast-finish-tests
+    finish-tests-requires
+    returns)

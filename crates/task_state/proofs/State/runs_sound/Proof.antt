@@ -1,20 +1,21 @@
 -- `task_state::State::runs_sound` meets its contract.
-use Prim.Native.Nat.{ℕ, _-_, _≤_, _<_}
+use Prim.Native.Nat.{ℕ, _+_, _-_, _≤_, _<_}
 use mathlib.Core.Path.{_≡_, sym, _∙_}
 use mathlib.Core.Logic.{⊎-elim}
 use mathlib.Core.Bool.{true, false}
 use native.Mathlib.Omega.{arith}
 use borrow.Author.Needs.{needs}
 use borrow.Author.Tests.{not-true, not-false, lt-leb, le-leb}
-use Rattle.units.specs.Limits.{coresLimit, runsLimit}
+use Rattle.units.specs.Limits.{coresLimit, clockLimit, runsLimit}
 use Rattle.lists.specs.Below.{allBelow}
 use Rattle.lists.proofs.Below.{all-none, all-more, all-fails}
 use Rattle.planning.specs.declared.Line.{Line}
 use Rattle.stored_runs.specs.declared.Run.{Run}
 use Rattle.task_state.specs.declared.State.{State}
 use Rattle.task_state.specs.State.{runAt}
+use Rattle.task_state.specs.Due.{dueAfter}
 use Rattle.task_state.specs.Sound.{runRule, runsSound}
-use Rattle.task_state.proofs.Ruled.{ruleBy, placed, placed-in, unplaced, unfinished, past}
+use Rattle.task_state.proofs.Ruled.{ruleBy, placed, placed-in, unplaced, unfinished, rule-by, past}
 use Rattle.task_state.proofs.State.runs_sound.Statement.{statement}
 use Rattle.task_state.proofs.State.runs_sound.Tie as tie
 
@@ -30,16 +31,24 @@ abbrev Here : Type 0
 Here = tie.After-deadline Inv-loop μ-loop
 
 abbrev lineOf : Here → Line
-lineOf c = c .before .before .before .before .before .before .before .args .line
+lineOf c = c .before .before .before .before .before .before .before .before .args .line
 
 abbrev stateOf : Here → State
-stateOf c = c .before .before .before .before .before .before .before .args .t1
+stateOf c = c .before .before .before .before .before .before .before .before .args .t1
 
 abbrev at : Here → ℕ
 at c = c .before .before .before .loop .k
 
 abbrev runOf : Here → Run
 runOf c = runAt (stateOf c) (at c)
+
+-- the latest deadline is the rule's
+due-is : (c : tie.After-due-after Inv-loop μ-loop)
+    → clockLimit + c .due-after .result .0 ≡ clockLimit + dueAfter (c .before .before .before .args .line)
+due-is c = rw (c .due-after .ensures)
+
+latest-is : (c : Here) → clockLimit + c .before .before .before .before .before .due-after .result .0 ≡ clockLimit + dueAfter (lineOf c)
+latest-is c = due-is (c .before .before .before .before .before)
 
 -- one that breaks its rule decides
 breaks : (c : Here) → runRule (lineOf c) (stateOf c) (at c) ≡ false → false ≡ runsSound (lineOf c) (stateOf c)
@@ -61,6 +70,9 @@ cast-live c = search needs
 
 returns : tie.Need-returns Inv-loop μ-loop
 returns c = rw (lt-leb _ _ (c .if1 .taken))
+
+due-after-requires : tie.Need-due-after-requires Inv-loop μ-loop
+due-after-requires c κs = search needs
 
 cast-latest : tie.Need-cast-latest Inv-loop μ-loop
 cast-latest c = search needs
@@ -107,7 +119,7 @@ returns-3 : tie.Need-returns-3 Inv-loop μ-loop
 returns-3 c =
     let e = c .before .before .before .before in
     let r = e .before .before .before in
-    breaks r (unfinished (lineOf r) (stateOf r) (at r) (e .before .before .if2 .taken) (on-core e) ∙ sym (c .before .sound .ensures) ∙ not-true _
+    breaks r (unfinished (lineOf r) (stateOf r) (at r) (latest-is r) (e .before .before .if2 .taken) (on-core e) ∙ sym (c .before .sound .ensures) ∙ not-true _
     (c .if4 .taken))
 
 empty-requires : tie.Need-empty-requires Inv-loop μ-loop
@@ -129,17 +141,19 @@ loop-again c =
     let r = c .before in
     let keeps : runRule (lineOf r) (stateOf r) (at r) ≡ true =
     ⊎-elim
-    (λ t. unfinished (lineOf r) (stateOf r) (at r) (t .0 .taken) (sym (t .1 .ensures) ∙ not-false _ (t .2 .left)) ∙ sym (t .5 .ensures) ∙ not-false _
-    (t .6 .left))
+    (λ t.
+    let on = sym (t .1 .ensures) ∙ not-false _ (t .2 .left) in
+    unfinished (lineOf r) (stateOf r) (at r) (latest-is r) (t .0 .taken) on ∙ sym (t .5 .ensures) ∙ not-false _ (t .6 .left))
     (λ t. past (lineOf r) (stateOf r) (at r) (t .0 .left) ∙ sym (t .1 .ensures) ∙ not-false _ (t .2 .left))
     (c .if2 .came) in
-    (omega arith, all-more _ _ (r .before .before .before .loop .inv .1) keeps)
+    (omega arith, all-more _ _ (r .before .before .before .loop .inv .1) (rule-by (lineOf r) (stateOf r) (at r) (latest-is r) ∙ keeps))
 
 returns-5 : tie.Need-returns-5 Inv-loop μ-loop
 returns-5 c =
-    let a = c .before .before .before .before .before .args in
+    let d = c .before .before .before in
+    let a = d .before .before .before .args in
     let e : c .before .loop .k ≡ runsLimit = omega arith in
-    rw (le-leb (a .t1 .live) runsLimit (omega arith)) (sym (rw e at (c .before .loop .inv .1)))
+    rw (le-leb (a .t1 .live) runsLimit (omega arith)) (sym (rw (e, due-is d) at (c .before .loop .inv .1)))
 
 pub runs-sound-spec : {M : Type 1} → statement M
 runs-sound-spec =
@@ -149,6 +163,7 @@ runs-sound-spec =
     μ-loop
     cast-live
     returns
+    due-after-requires
     cast-latest
     add-latest
     loop-holds

@@ -5,14 +5,16 @@ use native.Mathlib.Omega.{arith}
 use borrow.Author.Needs.{needs}
 use lib.ListN.{length, set}
 use Rattle.units.specs.declared.ticks.Ticks.{Ticks}
-use Rattle.units.specs.Limits.{coresLimit}
-use Rattle.units.specs.Units.{ticks}
+use Rattle.units.specs.Limits.{coresLimit, clockLimit}
+use Rattle.units.specs.declared.ticks.Duration.{Duration}
+use Rattle.units.specs.Units.{ticks, duration}
 use Rattle.units.proofs.Units.{field-long}
 use Rattle.planning.specs.declared.Line.{Line}
 use Rattle.planning.specs.Plan.{rowOf}
 use Rattle.turn.specs.declared.Turn.{Turn}
 use Rattle.turn.proofs.Keeps.{turn-keeps}
 use Rattle.task_state.specs.declared.State.{State}
+use Rattle.task_state.specs.Due.{dueAfter, releaseAt}
 use Rattle.task_state.specs.Runs.{turnAt, withRun, takenRun}
 use Rattle.task_state.proofs.State.with_run.Statement.{statement}
 use Rattle.task_state.proofs.State.with_run.Tie as tie
@@ -29,11 +31,21 @@ core-in s =
 turn-of-requires : tie.Need-turn-of-requires
 turn-of-requires c κs = search needs
 
+release-time-requires : tie.Need-release-time-requires
+release-time-requires c κs = search needs
+
+due-after-requires : tie.Need-due-after-requires
+due-after-requires c κs = search needs
+
 cast-due : tie.Need-cast-due
 cast-due c = search needs
 
 add-due : tie.Need-add-due
-add-due c = search needs
+add-due c =
+    let t = c .before .before .before in
+    let s = t .before .before .before .before .before .before in
+    let in-time : t .release-time .result .0 ≤ clockLimit = rw (t .release-time .ensures) (s .pre .released) in
+    omega (arith, in-time, s .pre .time)
 
 cast-at : tie.Need-cast-at
 cast-at c = search needs
@@ -46,7 +58,7 @@ element-set-from-deadline c = search needs
 
 cast-state : tie.Need-cast-state
 cast-state c =
-    let t = c .before .before .before .before in
+    let t = c .before .before .before .before .before .before .before .before in
     let small : t .turn-of .result .core ≤ coresLimit = rw (t .turn-of .ensures) (core-in (t .before .before .before)) in
     omega (arith, small)
 
@@ -56,11 +68,12 @@ element-write-state c = search needs
 add-state : tie.Need-add-state
 add-state c = search needs
 
--- the task with its run, by the turn x
-run-taken : (ln : Line) (st : State) (time : Ticks) {x : Turn} → x ≡ turnAt ln st
-    → let due = ticks (time .0 + ln .period .0) in record {
+-- the task with its run, by the turn x, the release time y and what is due after it
+run-taken : (ln : Line) (st : State) (time : Ticks) {x : Turn} {y : Ticks} {after : Duration}
+    → x ≡ turnAt ln st → y ≡ ticks (releaseAt ln st (time .0)) → after ≡ duration (dueAfter ln)
+    → let due = ticks (y .0 + after .0) in record {
       state = record {
-        last = time;
+        last = y;
         deadlines = set (st .deadlines) (st .live) due;
         counts = x .counts;
         place = x .place;
@@ -73,19 +86,23 @@ run-taken : (ln : Line) (st : State) (time : Ticks) {x : Turn} → x ≡ turnAt 
     }
     ≡ takenRun ln st (time .0)
 unfolding withRun takenRun
-run-taken ln st time e = rw e
+run-taken ln st time e q d = rw (e, q, d)
 
 returns : tie.Need-returns
 returns c =
-    let t = c .before .before .before .before .before in
+    let d = c .before .before .before .before .before in
+    let y = d .before in
+    let t = y .before .before .before in
     let s = t .before .before .before .args in
-    run-taken (s .line) (s .self) (s .time) (t .turn-of .ensures)
+    run-taken (s .line) (s .self) (s .time) (t .turn-of .ensures) (y .release-time .ensures) (d .due-after .ensures)
 
 pub with-run-spec : {M : Type 1} → statement M
 with-run-spec =
     tie.close
     (tie.spec
     turn-of-requires
+    release-time-requires
+    due-after-requires
     cast-due
     add-due
     cast-at

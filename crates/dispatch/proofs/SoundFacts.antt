@@ -1,4 +1,4 @@
--- What a sound record holds.
+-- What the soundness of a record says, as facts.
 use Prim.Native.Nat.{ℕ, _+_, _≤_, _<_}
 use mathlib.Core.Path.{_≡_}
 use mathlib.Core.Bool.{true, _&&_}
@@ -12,25 +12,26 @@ use Rattle.lists.proofs.Tests.{by-cases, and-left, and-right, and-true}
 use Rattle.lists.proofs.Below.{all-at, all-from}
 use Rattle.soundness.specs.Plan.{planSound}
 use Rattle.soundness.proofs.Facts.{tasks-few, period-small}
+use Rattle.planning.specs.declared.Line.{Line}
 use Rattle.task_state.specs.declared.State.{State}
-use Rattle.task_state.specs.State.{runAt}
 use Rattle.task_state.specs.Sound.{stateSound, runsEmpty, stateEmpty}
 use Rattle.task_state.specs.Key.{deadlineOf, waits}
 use Rattle.task_state.proofs.Facts.{facts, oldest-due}
+use Rattle.task_state.proofs.Waits.{waits-told}
 use Rattle.dispatch.specs.declared.Record.{Record}
 use Rattle.dispatch.specs.Record.{lineAt, stateAt}
 use Rattle.dispatch.specs.Sound.{clockIn, stateOk, soundOf}
 
 -- its clock, its plan and its states
-pub record Held (r : Record) : Type 0 where
+pub record SoundFacts (r : Record) : Type 0 where
   pub clock : r .clock .0 ≤ clockLimit
   pub plan : planSound (r .plan) ≡ true
   pub states : (i : ℕ) → i < tasksLimit → stateOk (r .plan) (r .states) i ≡ true
 
 -- soundness says them
-pub held : (r : Record) → soundOf r ≡ true → Held r
+pub sound-facts : (r : Record) → soundOf r ≡ true → SoundFacts r
 unfolding soundOf
-held r e =
+sound-facts r e =
     let a = clockIn r in
     let b = planSound (r .plan) in
     let c = allBelow tasksLimit (stateOk (r .plan) (r .states)) in
@@ -42,7 +43,7 @@ held r e =
     }
 
 -- and they say it
-pub sound : (r : Record) → Held r → soundOf r ≡ true
+pub sound : (r : Record) → SoundFacts r → soundOf r ≡ true
 unfolding soundOf
 sound r h =
     let a = clockIn r in
@@ -53,15 +54,14 @@ sound r h =
     (all-from tasksLimit (stateOk (r .plan) (r .states)) (h .states))
 
 -- an empty state waits on no core
-empty-waits : (st : State) (k : ℕ) → stateEmpty st ≡ true → waits st k ≡ true → ⊥
-empty-waits st k e w =
+empty-waits : (ln : Line) (st : State) (k x : ℕ) → stateEmpty st ≡ true → waits ln st k x ≡ true → ⊥
+empty-waits ln st k x e w =
     let a = eqb (total (st .counts)) 0 && eqb (st .place) 0 && eqb (st .last .0) 0 && eqb (st .had) 0 in
     let b = eqb (st .live) 0 in
     let none = eqb-true (st .live) 0 (and-right a b (and-left (a && b) (runsEmpty st) e)) in
-    let some = ltb-true 0 (st .live) (and-left (ltb 0 (st .live)) (eqb (runAt st 0 .core) k) w) in
-    omega (arith, none, some)
+    omega (arith, none, waits-told ln st k x w .unfinished)
 
-module _ (r : Record) (s : Held r) (i : ℕ) where
+module _ (r : Record) (s : SoundFacts r) (i : ℕ) where
   module _ (h : i < r .plan .count) where
     -- a task's number is below the limit
     pub task-below : i < tasksLimit
@@ -75,10 +75,10 @@ module _ (r : Record) (s : Held r) (i : ℕ) where
     pub due-small : deadlineOf (stateAt r i) ≤ clockLimit + periodLimit
     due-small = omega (arith, oldest-due (lineAt r i) (stateAt r i) (facts (lineAt r i) (stateAt r i) state-sound), period-small (r .plan) (s .plan) i h)
 
-  module _ (k : ℕ) (l : i < tasksLimit) (w : waits (stateAt r i) k ≡ true) where
+  module _ (k : ℕ) (l : i < tasksLimit) (w : waits (lineAt r i) (stateAt r i) k (r .clock .0) ≡ true) where
     -- a task that waits on a core is one of the N tasks
     pub waits-in : i < r .plan .count
     waits-in =
         by-cases (ltb i (r .plan .count))
         (λ e. ltb-true i (r .plan .count) e)
-        (λ e. absurd (empty-waits (stateAt r i) k (rw e at (s .states i l)) w))
+        (λ e. absurd (empty-waits (lineAt r i) (stateAt r i) k (r .clock .0) (rw e at (s .states i l)) w))

@@ -1,0 +1,5 @@
+pub mod Touched
+pub mod InOrder
+pub mod Over
+pub mod FromPlan
+pub mod Example
