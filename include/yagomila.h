@@ -44,13 +44,12 @@ extern "C" {
 #define YAGOMILA_REFUSED_NO_TASK 7
 /* The call's time is below the record's clock. */
 #define YAGOMILA_REFUSED_PAST 8
-/* A release less than a period after the task's last accepted release. */
-#define YAGOMILA_REFUSED_EARLY 9
+/* 9 is never given: a release less than a period after the task's last one is taken and held. */
 /* A release while eight runs of the task are unfinished. */
 #define YAGOMILA_REFUSED_BACKLOG 10
-/* A finish of a task with no unfinished run. */
+/* A finish of a task with no unfinished run, or whose oldest one is held. */
 #define YAGOMILA_REFUSED_NO_RUN 11
-/* The call's time is above 1,000,000,000,000. */
+/* The call's time, or the time until which a release is held, is above 1,000,000,000,000. */
 #define YAGOMILA_REFUSED_CLOCK 12
 /* The core number is 0 or above the number of cores. */
 #define YAGOMILA_REFUSED_NO_CORE 13
@@ -99,8 +98,8 @@ typedef struct {
 } yagomila_plan;
 
 /*
- * What a task is at: its last release, its unfinished runs' deadlines, oldest first, its turn counts and their place in
- * the turn cycle, the runs' cores, how many runs are unfinished, and 1 if it had a release, else 0.
+ * What a task is at: its last release time, its unfinished runs' deadlines, oldest first, its turn counts and their
+ * place in the turn cycle, the runs' cores, how many runs are unfinished, and 1 if it had a release, else 0.
  */
 typedef struct {
     uint64_t last_release;
@@ -158,13 +157,20 @@ int64_t yagomila_listing(uint32_t cores, const uint8_t *table, size_t table_len,
 /* Plans a table: the record is fresh, with clock 0 and no runs. Refusals: 1 to 6. */
 uint32_t yagomila_start(yagomila_record *held, uint32_t cores, const uint8_t *table, size_t table_len);
 
-/* A run of a task arrives: the core that it goes to, and its deadline. Refusals: 15, 7, 12, 8, 9, 10. */
+/*
+ * A run of a task arrives: the core that it goes to, and its deadline. Its release time is the call's time, or a period
+ * after the task's last release time where that is later: then it comes early, and is held until its release time. The
+ * deadline is a period after the release time. Refusals: 15, 7, 12, 8, 12 for the time until which it is held, 10.
+ */
 uint32_t yagomila_release(yagomila_record *held, size_t task, uint64_t time, size_t *core, uint64_t *deadline);
 
-/* A task's oldest unfinished run ends: the time less its deadline, negative if early. Refusals: 15, 7, 12, 8, 11. */
+/*
+ * A task's oldest unfinished run ends: the time less its deadline, negative if early. Refusals: 15, 7, 12, 8, 11; a run
+ * that is held cannot end.
+ */
 uint32_t yagomila_finish(yagomila_record *held, size_t task, uint64_t time, int64_t *late);
 
-/* What a core is to run now. Refusals: 15, 13, 12, 8. */
+/* What a core is to run now; never a run that is held. Refusals: 15, 13, 12, 8. */
 uint32_t yagomila_look(yagomila_record *held, size_t core, uint64_t time, yagomila_choice *choice);
 
 /*

@@ -229,8 +229,8 @@ static void ask_cores(uint64_t clock)
     }
 }
 
-/* Runs of all tasks until their places are full, with looks between, and then finishes until there is none. */
-static void ask_runs(size_t tasks, uint64_t period)
+/* Runs of all tasks until their places are full, with looks between, and then finishes until there is none: the clock after. */
+static uint64_t ask_runs(size_t tasks, uint64_t period)
 {
     uint64_t clock = 0, run;
     size_t task;
@@ -239,7 +239,6 @@ static void ask_runs(size_t tasks, uint64_t period)
         for (task = 1; task <= tasks; task++) {
             call(RELEASE, task, clock, run < YAGOMILA_RUNS_MAX ? 0 : YAGOMILA_REFUSED_BACKLOG, "a release is answered otherwise");
             want(run == YAGOMILA_RUNS_MAX || (*deadline == clock + period && *core >= 1 && *core <= cores), "another core or deadline");
-            call(RELEASE, task, clock, run < YAGOMILA_RUNS_MAX ? YAGOMILA_REFUSED_EARLY : YAGOMILA_REFUSED_BACKLOG, "an early release");
         }
         ask_cores(clock);
         ask_refused(tasks, clock);
@@ -250,8 +249,84 @@ static void ask_runs(size_t tasks, uint64_t period)
             want(*late == (int64_t)clock - (int64_t)(1 + (run + 1) * period), "another lateness");
         }
     call(FINISH, tasks, clock, YAGOMILA_REFUSED_NO_RUN, "a finish without a run");
+    return clock;
+}
+
+/* Eight runs of a task at one time, and one too many: the first is released then, each other a period after the one before. */
+static void ask_row(size_t task, uint64_t time, uint64_t period)
+{
+    uint64_t run;
+    for (run = 0; run < YAGOMILA_RUNS_MAX; run++) {
+        call(RELEASE, task, time, 0, "an early release is refused");
+        want(*deadline == time + (run + 1) * period, "another deadline of an early run");
+    }
+    call(RELEASE, task, time, YAGOMILA_REFUSED_BACKLOG, "a ninth run, early");
+}
+
+/* Before its release a run is no core's choice and cannot end; then it can. All tasks have eight runs in a row from `first` on. */
+static void ask_held(size_t tasks, uint64_t first, uint64_t period)
+{
+    uint64_t run;
+    size_t task, k;
+    for (run = 0; run < YAGOMILA_RUNS_MAX; run++) {
+        uint64_t released = first + run * period;
+        for (k = 1; run > 0 && k <= cores; k++) {
+            call(LOOK, k, released - 1, 0, "a look is refused");
+            want(choice->kind == YAGOMILA_IDLE, "a held run is chosen");
+        }
+        for (task = 1; run > 0 && task <= tasks; task++)
+            call(FINISH, task, released - 1, YAGOMILA_REFUSED_NO_RUN, "a finish of a held run");
+        ask_cores(released);
+        call(LOOK, held->tasks[0].cores[0], released, 0, "a look is refused");
+        want(choice->kind != YAGOMILA_IDLE, "a released run is not chosen");
+        for (task = 1; task <= tasks; task++) {
+            call(FINISH, task, released, 0, "a finish at the release is refused");
+            want(*late == -(int64_t)period, "another lateness of an early run");
+        }
+    }
+}
+
+/* A run of the first task that no call leaves so: its deadline is below the period, or its last release ahead of the clock. */
+static void ask_by_hand(uint64_t clock, uint64_t period)
+{
+    yagomila_task *first = &held->tasks[0];
+    call(RELEASE, 1, clock, 0, "a release is refused");
+    first->deadlines[0] = period - 1;
+    call(LOOK, first->cores[0], clock, 0, "a look is refused");
+    want(choice->task == 1 && choice->deadline == period - 1, "a deadline below the period is not chosen");
+    call(FINISH, 1, clock, 0, "a finish of a deadline below the period");
+    first->last_release = clock + 7;
+    call(RELEASE, 1, clock, 0, "a release after a last one ahead of the clock");
+    want(*deadline == clock + 7 + 2 * period, "another deadline after a last release ahead of the clock");
+    call(FINISH, 1, clock + 6 + period, YAGOMILA_REFUSED_NO_RUN, "a finish of a run that is held so");
+    call(FINISH, 1, clock + 7 + period, 0, "a finish at its release");
+}
+
+/* At the clock's limit: a run may be held until then, and no longer, before its place is asked for. */
+static void ask_limit(uint64_t period)
+{
+    call(RELEASE, 1, CLOCK_MOST - period, 0, "a release a period before the clock's limit");
+    call(RELEASE, 1, CLOCK_MOST - period, 0, "a release that is held until the clock's limit");
+    want(*deadline == CLOCK_MOST + period, "another deadline at the clock's limit");
+    call(RELEASE, 1, CLOCK_MOST - period, YAGOMILA_REFUSED_CLOCK, "a release that is held past the clock's limit");
+    call(FINISH, 1, CLOCK_MOST, 0, "a finish at the clock's limit");
+    call(FINISH, 1, CLOCK_MOST, 0, "a finish of a run that is released there");
+    call(RELEASE, 1, CLOCK_MOST, YAGOMILA_REFUSED_CLOCK, "an early release at the clock's limit");
+    held->tasks[0].last_release = CLOCK_MOST - period;
     call(RELEASE, 1, CLOCK_MOST, 0, "a release at the clock's limit");
-    call(RELEASE, 1, CLOCK_MOST, YAGOMILA_REFUSED_EARLY, "an early release at the clock's limit");
+}
+
+/* What comes early is held. */
+static void ask_early(size_t tasks, uint64_t clock, uint64_t period)
+{
+    size_t task;
+    clock += period;
+    for (task = 1; task <= tasks; task++)
+        ask_row(task, clock, period);
+    ask_refused(tasks, clock);
+    ask_held(tasks, clock, period);
+    ask_by_hand(clock + YAGOMILA_RUNS_MAX * period, period);
+    ask_limit(period);
 }
 
 static void ask_unsound(void)
@@ -299,7 +374,7 @@ static void ask_records(void)
         cores = boxes[k].cores;
         put_table((size_t)boxes[k].tasks * YAGOMILA_TASK_BYTES, boxes[k].cost, boxes[k].period);
         want(make(START) == 0, "a box is refused");
-        ask_runs(boxes[k].tasks, boxes[k].period);
+        ask_early(boxes[k].tasks, ask_runs(boxes[k].tasks, boxes[k].period), boxes[k].period);
         cores = 0;
         want(make(START) == YAGOMILA_REFUSED_CORES, "a start on 0 cores");
         ask_spoilt();

@@ -16,11 +16,11 @@
 /* Cost and period of each task: a run takes its whole cost here. */
 static const uint32_t tasks[TASKS][2] = {{2, 3}, {2, 3}, {2, 3}};
 
-/* The script: when a run arrives, and of which task. Task 3 comes too early at 2, and there is no task 4. */
+/* The script: when a run arrives, and of which task. Task 3 comes a tick early at 2, and there is no task 4. */
 static const struct {
     uint64_t time;
     size_t task;
-} arrivals[] = {{0, 1}, {0, 2}, {0, 3}, {2, 3}, {3, 1}, {3, 2}, {3, 3}, {6, 3}, {8, 2}, {9, 4}, {9, 3}, {12, 1}};
+} arrivals[] = {{0, 1}, {0, 2}, {0, 3}, {2, 3}, {3, 1}, {3, 2}, {6, 3}, {8, 2}, {9, 4}, {9, 3}, {12, 1}};
 
 #define ARRIVALS (sizeof arrivals / sizeof arrivals[0])
 
@@ -58,7 +58,7 @@ static void put_table(void)
     }
 }
 
-/* A run arrives. What is refused is dropped here; a real box may hold an early one back. */
+/* A run arrives; an early one is held, and no look names it before its time. What is refused is dropped here. */
 static void release(size_t task, uint64_t now)
 {
     uint32_t refusal = yagomila_release(&lent.held, task, now, &lent.core, &lent.deadline);
@@ -134,7 +134,7 @@ static void refused(const char *what, int64_t answer, int64_t expected)
         wrong = 1;
 }
 
-/* Refusals of the calls on the record; its clock is at 12. */
+/* Refusals of the calls on the record; its clock is at 13, and task 2 has a run that is held until 16. */
 static void ask_dispatcher(size_t listing_len)
 {
     yagomila_record *held = &lent.held;
@@ -145,13 +145,13 @@ static void ask_dispatcher(size_t listing_len)
     refused("start on 1 core", yagomila_start(held, 1, lent.table, TABLE_LEN), YAGOMILA_REFUSED_WEIGHTS);
     refused("release of task 4", yagomila_release(held, 4, 13, &lent.core, &lent.deadline), YAGOMILA_REFUSED_NO_TASK);
     refused("release past the clock's limit", yagomila_release(held, 1, UINT64_MAX, &lent.core, &lent.deadline), YAGOMILA_REFUSED_CLOCK);
-    refused("release before the clock", yagomila_release(held, 1, 11, &lent.core, &lent.deadline), YAGOMILA_REFUSED_PAST);
-    refused("release too early", yagomila_release(held, 1, 13, &lent.core, &lent.deadline), YAGOMILA_REFUSED_EARLY);
+    refused("release before the clock", yagomila_release(held, 1, 12, &lent.core, &lent.deadline), YAGOMILA_REFUSED_PAST);
     refused("finish of task 0", yagomila_finish(held, 0, 13, &lent.late), YAGOMILA_REFUSED_NO_TASK);
-    refused("finish before the clock", yagomila_finish(held, 1, 11, &lent.late), YAGOMILA_REFUSED_PAST);
-    refused("finish of no run", yagomila_finish(held, 2, 13, &lent.late), YAGOMILA_REFUSED_NO_RUN);
+    refused("finish before the clock", yagomila_finish(held, 1, 12, &lent.late), YAGOMILA_REFUSED_PAST);
+    refused("finish of no run", yagomila_finish(held, 3, 13, &lent.late), YAGOMILA_REFUSED_NO_RUN);
+    refused("finish of a held run", yagomila_finish(held, 2, 15, &lent.late), YAGOMILA_REFUSED_NO_RUN);
     refused("look at core 3", yagomila_look(held, 3, 13, &lent.choice), YAGOMILA_REFUSED_NO_CORE);
-    refused("look before the clock", yagomila_look(held, 1, 11, &lent.choice), YAGOMILA_REFUSED_PAST);
+    refused("look before the clock", yagomila_look(held, 1, 12, &lent.choice), YAGOMILA_REFUSED_PAST);
     refused("list in a buffer one byte short", yagomila_list(held, lent.buf, listing_len - 1, &lent.len), YAGOMILA_REFUSED_BUFFER);
     refused("list in no buffer", yagomila_list(held, NULL, 0, &lent.len), YAGOMILA_REFUSED_BUFFER);
 }
@@ -199,7 +199,11 @@ int main(void)
     fwrite(lent.buf, 1, listing_len, stdout);
 
     play();
-    finish(2, TICKS); /* a job that says once too often that it is done */
+    /* two readings at once, and a job that says once too often that it is done: its second run is held until 16 */
+    release(2, TICKS);
+    release(2, TICKS);
+    finish(2, TICKS);
+    finish(2, TICKS);
 
     ask_dispatcher(listing_len);
     ask_unsound();

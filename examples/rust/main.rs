@@ -5,15 +5,14 @@ use yagomila::{Choice, Dispatcher};
 
 const CORES: usize = 2;
 const TASKS: [(u32, u32); 3] = [(2, 3), (2, 3), (2, 3)];
-/// The script: when a run arrives, and of which task. Task 3 comes too early at 2, and there is no task 4.
-const ARRIVALS: [(u64, usize); 12] = [
+/// The script: when a run arrives, and of which task. Task 3 comes a tick early at 2, and there is no task 4.
+const ARRIVALS: [(u64, usize); 11] = [
     (0, 1),
     (0, 2),
     (0, 3),
     (2, 3),
     (3, 1),
     (3, 2),
-    (3, 3),
     (6, 3),
     (8, 2),
     (9, 4),
@@ -98,7 +97,11 @@ fn main() {
         ticks_had: [0; TASKS.len()],
     };
     small.play();
+    // two readings at once, and a job that says once too often that it is done: its second run is held until 16
+    small.release(2, TICKS);
+    small.release(2, TICKS);
+    small.finish(2, TICKS);
     let before = small.dispatcher.clone();
-    small.finish(2, TICKS); // a job that says once too often that it is done
+    small.finish(2, TICKS);
     assert!(small.dispatcher == before);
 }

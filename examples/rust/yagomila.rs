@@ -221,7 +221,8 @@ impl Dispatcher {
         unless_refused(refusal, Dispatcher { held })
     }
 
-    /// A run of a task arrives: the core that it goes to, and its deadline. Refusals: 7, 12, 8, 9, 10.
+    /// A run of a task arrives: the core that it goes to, and its deadline. One that comes less than a period after the
+    /// last release time is held until a period after it. Refusals: 7, 12, 8, 12, 10.
     pub fn release(&mut self, task: usize, time: u64) -> Result<(usize, u64), u32> {
         let (mut core, mut deadline) = (0, 0);
         let refusal =
@@ -229,7 +230,7 @@ impl Dispatcher {
         unless_refused(refusal, (core, deadline))
     }
 
-    /// A task's oldest unfinished run ends: the time less its deadline. Refusals: 7, 12, 8, 11.
+    /// A task's oldest unfinished run ends, unless it is held: the time less its deadline. Refusals: 7, 12, 8, 11.
     pub fn finish(&mut self, task: usize, time: u64) -> Result<i64, u32> {
         let mut late = 0;
         let refusal = unsafe { yagomila_finish(&mut *self.held, task, time, &mut late) };
