@@ -44,7 +44,8 @@ extern "C" {
 #define YAGOMILA_REFUSED_NO_TASK 7
 /* The call's time is below the record's clock. */
 #define YAGOMILA_REFUSED_PAST 8
-/* 9 is never given: a release less than a period after the task's last one is taken and held. */
+/* Never given: a release less than a period after the task's last one is taken and held. A host may still name it. */
+#define YAGOMILA_REFUSED_EARLY 9
 /* A release while eight runs of the task are unfinished. */
 #define YAGOMILA_REFUSED_BACKLOG 10
 /* A finish of a task with no unfinished run, or whose oldest one is held. */

@@ -86,7 +86,7 @@ static int64_t make(const char *name, int64_t (*call)(const struct side *))
         printf("%s %" PRId64 " %016" PRIx64 "\n", name, answer, checksum());
     demand(answer >= 0 || same_all(), "a byte changed on a refusal");
     demand(answer != -YAGOMILA_REFUSED_UNSOUND || !honest, "15 after start and calls alone");
-    demand(answer != -9, "9, which is never given");
+    demand(answer != -YAGOMILA_REFUSED_EARLY, "9, which is never given");
     if (oracle != NULL) {
         demand(call(oracle) == answer, "another answer than the second program's");
         demand(same_all(), "a byte that is lent is another than the second program's");

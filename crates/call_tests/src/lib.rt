@@ -51,9 +51,5 @@ pub fn finish_tests(live: usize, held: bool) -> u32
     ensures { λ r. ⌜ r ≡ finishTests live held ⌝ }
 {
     let none = live == 0;
-    if none | held {
-        Refusal::NO_RUN
-    } else {
-        0
-    }
+    if none | held { Refusal::NO_RUN } else { 0 }
 }

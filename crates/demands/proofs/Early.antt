@@ -1,11 +1,13 @@
 -- Document 02, R-2: an early release is taken and held. Tasks and cores are counted from 1, stored runs from 0, the oldest first.
 use Prim.Native.Nat.{ℕ, suc, _+_, _-_, _≤_, _<_}
-use mathlib.Core.Path.{_≡_, subst}
+use mathlib.Core.Path.{_≡_, refl, subst}
 use mathlib.Core.Logic.{⊎-elim}
-use mathlib.Core.List.{List}
+use mathlib.Core.List.{List, [], _∷_}
 use native.Mathlib.Omega.{arith}
+use lib.IntN.{negsuc}
 use lib.ListN.{length, getD}
 use Rattle.units.specs.Units.{ticks}
+use Rattle.units.specs.Refusals.{refusal}
 use Rattle.units.specs.declared.ticks.Ticks.{Ticks}
 use Rattle.admission.specs.Words.{tasks}
 use Rattle.planning.specs.declared.Line.{Line}
@@ -15,19 +17,18 @@ use Rattle.task_state.specs.declared.State.{State}
 use Rattle.task_state.specs.State.{runAt}
 use Rattle.task_state.specs.Due.{releaseAt}
 use Rattle.task_state.specs.Runs.{turnAt}
+use Rattle.core_choice.specs.declared.Side.the-variants.{Upper}
 use Rattle.core_choice.specs.declared.Choice.{Choice}
+use Rattle.core_choice.specs.declared.Choice.the-variants.{Idle, Mover}
 use Rattle.core_choice.specs.Told.{choiceKind, choiceTask}
 use Rattle.dispatch.specs.declared.Record.{Record}
-use Rattle.dispatch.specs.declared.release.Released.{Released}
 use Rattle.dispatch.specs.declared.call.Call.{Call}
-use Rattle.dispatch.specs.declared.call.Call.the-variants.{Release, Look}
-use Rattle.dispatch.specs.declared.call.Answer.the-variants.{Looked}
+use Rattle.dispatch.specs.declared.call.Call.the-variants.{Release, Finish, Look}
+use Rattle.dispatch.specs.declared.call.Answer.the-variants.{Refused, Released, Finished, Looked}
 use Rattle.dispatch.specs.Record.{recordOf, freshOf}
 use Rattle.dispatch.specs.Release.{releaseOf}
-use Rattle.dispatch.specs.Look.{atTime}
 use Rattle.dispatch.specs.Shape.{Good}
-use Rattle.dispatch.specs.Calls.{answeredOf, callRefusal, step, after}
-use Rattle.dispatch.specs.Choice.{Chosen}
+use Rattle.dispatch.specs.Calls.{answeredOf, callRefusal, step, after, answersOf}
 use Rattle.dispatch.specs.Given.{here, past, taskState, Over, nextRelease, Early, oldestRelease, Given}
 use Rattle.dispatch.proofs.ReleaseTime.{held-until, at-once}
 use Rattle.dispatch.proofs.AfterRelease.{release-answered}
@@ -35,9 +36,9 @@ use Rattle.dispatch.proofs.Exactly.{exactly}
 use Rattle.dispatch.proofs.Choice.{look-exactly}
 use Rattle.dispatch.proofs.Values.{chosen-told}
 use Rattle.dispatch.proofs.Started.{started}
-use Rattle.release_order.specs.Releases.{Came, cameOf, FromFirst}
+use Rattle.release_order.specs.Releases.{Came, cameOf, timesOf, FromFirst}
 use Rattle.release_order.proofs.FromPlan as FromPlan
-use Rattle.release_order.proofs.Example as Example
+use Rattle.release_order.proofs.Example.{defs}
 use Rattle.demands.proofs.Beneath.Drawn.{drawn-task}
 
 -- any record; a release of task i that is called at time t
@@ -96,7 +97,7 @@ module _ (m : ℕ) (xs : List ℕ) (ok : freshOf m xs .refusal .no ≡ 0) (i : �
   came = cameOf i (freshOf m xs .next) cs
 
   abbrev ts : List ℕ
-  ts = FromPlan.times came
+  ts = timesOf came
 
   -- the first is released at its call's time, each other at its call's time or T after the last one, where that is later
   pub release-times : FromFirst T came
@@ -126,6 +127,21 @@ module _ (m : ℕ) (xs : List ℕ) (ok : freshOf m xs .refusal .no ≡ 0) (i : �
       let d = o .rise k l in
       (omega (arith, d, o .long k (omega arith)), d)
 
--- the request's example
-pub held-until-3 : Example.Held
-held-until-3 = Example.held-until-3
+-- the request's example, three of 2 3 on 2 cores: a release at 2, a tick early, is held until 3; at 2 it is neither finished nor chosen, at 3 it is chosen
+pub held-until-3 : answersOf (freshOf 2 (2 ∷ 3 ∷ 2 ∷ 3 ∷ 2 ∷ 3 ∷ []) .next)
+    (Release 3 (ticks 0)
+    ∷ Release 3 (ticks 2)
+    ∷ Finish 3 (ticks 2)
+    ∷ Finish 3 (ticks 2)
+    ∷ Look 2 (ticks 2)
+    ∷ Look 2 (ticks 3)
+    ∷ [])
+    ≡ Released 1 (ticks 3)
+    ∷ Released 2 (ticks 6)
+    ∷ Finished (negsuc 0)
+    ∷ Refused (refusal 11 0)
+    ∷ Looked Idle
+    ∷ Looked (Mover 3 (ticks 6) Upper)
+    ∷ []
+unfolding defs
+held-until-3 = refl

@@ -1,5 +1,5 @@
 -- A release's time in the words of document 02, R-2: held until T after the last one where it is early, its call's time where it is not.
-use Prim.Native.Nat.{ℕ, _-_, _<_}
+use Prim.Native.Nat.{ℕ, _-_}
 use mathlib.Core.Path.{_≡_, sym, _∙_}
 use mathlib.Core.Logic.{_⊎_, inl, inr, ⊎-elim}
 use mathlib.Core.Bool.{Bool, _&&_, false≢true}

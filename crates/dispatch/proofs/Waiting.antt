@@ -4,12 +4,11 @@ use mathlib.Core.Path.{_≡_, ap}
 use mathlib.Core.Bool.{true, false}
 use mathlib.Core.List.{List}
 use native.Mathlib.Omega.{arith}
-use lib.Dec.{ltb, eqb}
 use lib.ListN.{getD}
 use borrow.Author.Tests.{ltb-true, ltb-false, le-ltb, eqb-true, eq-eqb, lt-ltb}
 use Rattle.units.specs.Limits.{tasksLimit}
 use Rattle.lists.specs.Lists.{parts, bit}
-use Rattle.lists.proofs.Tests.{by-cases, and-left, and-right, and-true}
+use Rattle.lists.proofs.Tests.{by-cases, and-left, and-true}
 use Rattle.lists.proofs.Lists.{getD-le-sum, parts-some}
 use Rattle.task_shares.specs.Movers.{has, fixed, moves, fixedOn, movesOn, lower, upper}
 use Rattle.assignment.proofs.Loads.{movers-row}

@@ -58,6 +58,11 @@ abbrev pub after : Record → List Call → Record
 after r [] = r
 after r (c ∷ cs) = after (step r c) cs
 
+-- the answers of calls, in order
+abbrev pub answersOf : Record → List Call → List Answer
+answersOf r [] = []
+answersOf r (c ∷ cs) = answeredOf r c .answer ∷ answersOf (step r c) cs
+
 -- a call is a release of task i
 abbrev pub releases : ℕ → Call → Bool
 releases i (Release j t) = eqb j i

@@ -1,5 +1,4 @@
 -- The box of E1 under calls: task 5 moves with shares 1, 2, 1, and its accepted runs go to cores 2, 1, 2, 3, refused calls between them or not.
--- The box of E5 under calls that come early.
 use Prim.Native.Nat.{ℕ}
 use mathlib.Core.Path.{_≡_, refl}
 use mathlib.Core.Bool.{true}
@@ -33,22 +32,15 @@ use Rattle.dispatch.specs.Shape.{Good}
 use Rattle.planning.specs.Shape.{PlanShaped}
 use Rattle.dispatch.specs.declared.call.Call.{Call}
 use Rattle.dispatch.specs.declared.call.Call.the-variants.{Release, Finish, Look}
-use Rattle.dispatch.specs.Calls.{coresOf, answeredOf, step}
+use Rattle.dispatch.specs.Calls.{coresOf}
 use Rattle.dispatch.proofs.Fresh.{fresh-good}
-use lib.IntN.{negsuc}
-use Rattle.units.specs.Refusals.{refusal}
-use Rattle.core_choice.specs.declared.Side.the-variants.{Upper}
-use Rattle.core_choice.specs.declared.Choice.the-variants.{Idle, Mover}
-use Rattle.dispatch.specs.declared.Record.{Record}
-use Rattle.dispatch.specs.declared.call.Answer.{Answer}
-use Rattle.dispatch.specs.declared.call.Answer.the-variants.{Refused, Released, Finished, Looked}
 
 -- its plan
 unfoldable pub plan : Plan
 plan = planOf 4 (5 ∷ 6 ∷ 4 ∷ 6 ∷ 2 ∷ 3 ∷ 2 ∷ 3 ∷ 2 ∷ 3 ∷ 1 ∷ 2 ∷ []) .plan
 
--- the definitions that it and the calls compute by
-defs : ℕ
+-- the definitions that a plan and calls compute by
+unfoldable pub defs : ℕ
 unfolding plan planOf takenPlan refusedPlan planFor emptyPlan emptyLine planRefusal inputTest common periodOf lcm gcd euclid sharesOf emptyRows order inOrder planSound recordOf freshState soundOf allBelow taskTests lookRefusal releaseRefusal finishRefusal releaseOf takeRelease refuseRelease finishOf takeFinish refuseFinish lookOf bestOf choiceFor choiceOf freshOf withRun withoutRun turnOf coreOf bestFrom counted
 defs = 0
 
@@ -93,32 +85,3 @@ calls =
 pub cores : coresOf 5 (recordOf plan) calls ≡ 2 ∷ 1 ∷ 2 ∷ 3 ∷ []
 unfolding defs
 cores = refl
-
--- the answers of calls, in order
-abbrev pub answers : Record → List Call → List Answer
-answers r [] = []
-answers r (c ∷ cs) = answeredOf r c .answer ∷ answers (step r c) cs
-
--- document 02, R-2: three of 2 3 on 2 cores, the third of which moves with shares 1 and 1
--- its second release comes a tick early and is held until 3: at 2 it can be neither finished nor chosen, at 3 it is chosen
-abbrev pub Held : Type 0
-Held =
-    answers (freshOf 2 (2 ∷ 3 ∷ 2 ∷ 3 ∷ 2 ∷ 3 ∷ []) .next)
-    (Release 3 (ticks 0)
-    ∷ Release 3 (ticks 2)
-    ∷ Finish 3 (ticks 2)
-    ∷ Finish 3 (ticks 2)
-    ∷ Look 2 (ticks 2)
-    ∷ Look 2 (ticks 3)
-    ∷ [])
-    ≡ Released 1 (ticks 3)
-    ∷ Released 2 (ticks 6)
-    ∷ Finished (negsuc 0)
-    ∷ Refused (refusal 11 0)
-    ∷ Looked Idle
-    ∷ Looked (Mover 3 (ticks 6) Upper)
-    ∷ []
-
-pub held-until-3 : Held
-unfolding defs
-held-until-3 = refl

@@ -1,7 +1,7 @@
 -- Over any calls on the fresh record of a sound plan.
 use Prim.Native.Nat.{ℕ, zero, suc, _+_, _-_, _≤_, _<_}
-use mathlib.Core.Path.{_≡_, refl, ap}
-use mathlib.Core.List.{List, [], _∷_, map}
+use mathlib.Core.Path.{_≡_, refl}
+use mathlib.Core.List.{List, _∷_}
 use native.Mathlib.Omega.{arith}
 use lib.ListN.{length, getD, getD-replicate}
 use Rattle.units.specs.Limits.{tasksLimit}
@@ -9,31 +9,26 @@ use Rattle.planning.specs.declared.Line.{Line}
 use Rattle.planning.specs.declared.Plan.{Plan}
 use Rattle.planning.specs.Tasks.{taskLine}
 use Rattle.task_state.specs.State.{freshState, noState}
-use Rattle.dispatch.specs.declared.Record.{Record}
 use Rattle.dispatch.specs.declared.call.Call.{Call}
 use Rattle.dispatch.specs.Record.{recordOf}
 use Rattle.dispatch.specs.Shape.{Good}
 use Rattle.dispatch.specs.Calls.{after}
 use Rattle.dispatch.specs.Given.{taskState}
 use Rattle.dispatch.proofs.Records.{task-in}
-use Rattle.release_order.specs.Releases.{Came, cameOf, After, none, at-once, held, FromFirst, first}
+use Rattle.release_order.specs.Releases.{Came, cameOf, timesOf, After, none, at-once, held, FromFirst, first}
 use Rattle.release_order.proofs.InOrder.{InOrder, fresh-order}
 use Rattle.release_order.proofs.Over.{Task, calls-order, follow}
 
--- the release times of accepted releases
-abbrev pub times : List Came → List ℕ
-times xs = map (λ (a : Came). a .released) xs
-
 module _ (T : ℕ) where
   -- each is at least T above the one before it
-  after-apart : {x : ℕ} {xs : List Came} → After T x xs → (c : ℕ) → c < length (times xs) → getD (x ∷ times xs) c 0 + T ≤ getD (times xs) c 0
+  after-apart : {x : ℕ} {xs : List Came} → After T x xs → (c : ℕ) → c < length (timesOf xs) → getD (x ∷ timesOf xs) c 0 + T ≤ getD (timesOf xs) c 0
   after-apart none c l = absurd (omega arith)
   after-apart (at-once h a) zero l = h
   after-apart (held h a) zero l = omega arith
   after-apart (at-once h a) (suc c) l = after-apart a c (omega arith)
   after-apart (held h a) (suc c) l = after-apart a c (omega arith)
 
-  pub all-apart : {xs : List Came} → FromFirst T xs → (c : ℕ) → suc c < length (times xs) → getD (times xs) c 0 + T ≤ getD (times xs) (suc c) 0
+  pub all-apart : {xs : List Came} → FromFirst T xs → (c : ℕ) → suc c < length (timesOf xs) → getD (timesOf xs) c 0 + T ≤ getD (timesOf xs) (suc c) 0
   all-apart none c l = absurd (omega arith)
   all-apart (first a) c l = after-apart a c (omega arith)
 
@@ -56,8 +51,8 @@ module _ (pl : Plan) (g : Good (recordOf pl)) (i : ℕ) (from : 1 ≤ i) (to : i
   release-times = follow i ln cs (recordOf pl) task .1 (λ e. absurd (omega (arith, rw fresh at e)))
 
   -- so they lie at least T apart
-  pub releases-apart : (c : ℕ) → suc c < length (times (cameOf i (recordOf pl) cs))
-      → getD (times (cameOf i (recordOf pl) cs)) c 0 + ln .period .0 ≤ getD (times (cameOf i (recordOf pl) cs)) (suc c) 0
+  pub releases-apart : (c : ℕ) → suc c < length (timesOf (cameOf i (recordOf pl) cs))
+      → getD (timesOf (cameOf i (recordOf pl) cs)) c 0 + ln .period .0 ≤ getD (timesOf (cameOf i (recordOf pl) cs)) (suc c) 0
   releases-apart = all-apart (ln .period .0) release-times
 
   -- and the stored runs stand in their order

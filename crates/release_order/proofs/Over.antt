@@ -1,9 +1,7 @@
 -- Over any calls from a good record: when a task's accepted releases are released, and the order of its stored runs.
-use Prim.Native.Nat.{ℕ, zero, suc, _+_, _-_, _≤_, _<_}
+use Prim.Native.Nat.{ℕ, _+_, _-_, _≤_, _<_}
 use mathlib.Core.Path.{_≡_, refl, sym, ap, _∙_, subst}
-use mathlib.Core.Logic.{_⊎_, ⊎-elim, inl, inr}
 use mathlib.Core.List.{List, [], _∷_, _++_}
-use native.Mathlib.Decide.{ℕ-discrete}
 use native.Mathlib.Omega.{arith}
 use lib.Dec.{ltb}
 use borrow.Author.Tests.{ltb-true, ltb-false, eq-eqb, ne-eqb}
@@ -11,7 +9,6 @@ use Rattle.lists.proofs.Tests.{by-cases}
 use Rattle.planning.specs.declared.Line.{Line}
 use Rattle.planning.specs.declared.Plan.{Plan}
 use Rattle.planning.specs.Tasks.{taskLine}
-use Rattle.release_times.specs.Times.{releaseTime}
 use Rattle.task_state.specs.declared.State.{State}
 use Rattle.task_state.specs.Due.{releaseAt}
 use Rattle.task_state.specs.Runs.{withRun, withoutRun}
@@ -19,7 +16,6 @@ use Rattle.task_state.proofs.Facts.{facts}
 use Rattle.task_state.proofs.Passed.{has-room}
 use Rattle.dispatch.specs.declared.Record.{Record}
 use Rattle.dispatch.specs.declared.call.Call.{Call}
-use Rattle.dispatch.specs.Record.{lineAt, stateAt}
 use Rattle.dispatch.specs.Shape.{Good}
 use Rattle.dispatch.specs.Calls.{step, after}
 use Rattle.dispatch.specs.Given.{taskState}

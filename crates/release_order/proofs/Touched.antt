@@ -1,26 +1,24 @@
 -- What a call does to one task of a good record: a run more, its oldest ended, or nothing.
-use Prim.Native.Nat.{ℕ, _+_, _-_, _≤_, _<_}
+use Prim.Native.Nat.{ℕ, _-_, _<_}
 use mathlib.Core.Path.{_≡_, refl, sym, ap, _∙_}
-use mathlib.Core.Bool.{Bool, true, false, cond}
 use mathlib.Core.List.{List, [], _∷_}
 use native.Mathlib.Decide.{ℕ-discrete}
 use native.Mathlib.Omega.{arith}
-use lib.Dec.{eqb}
 use borrow.Author.Tests.{eq-eqb, ne-eqb}
 use Rattle.units.specs.declared.ticks.Ticks.{Ticks}
 use Rattle.planning.specs.declared.Line.{Line}
 use Rattle.planning.specs.Tasks.{taskLine}
 use Rattle.task_state.specs.declared.State.{State}
-use Rattle.task_state.specs.Due.{dueAfter, releaseAt}
+use Rattle.task_state.specs.Due.{releaseAt}
 use Rattle.task_state.specs.Runs.{dueAt, withRun, withoutRun}
-use Rattle.task_state.specs.Tests.{releaseTests, finishTests}
+use Rattle.task_state.specs.Tests.{releaseTests}
 use Rattle.task_state.proofs.Passed.{has-run}
 use Rattle.dispatch.specs.declared.Record.{Record}
 use Rattle.dispatch.specs.declared.call.Call.{Call}
 use Rattle.dispatch.specs.declared.call.Call.the-variants.{Release, Finish, Look}
 use Rattle.dispatch.specs.declared.look.Looked.{Looked}
 use Rattle.dispatch.specs.Shape.{Good}
-use Rattle.dispatch.specs.Calls.{answeredOf, callRefusal, step, releases}
+use Rattle.dispatch.specs.Calls.{answeredOf, callRefusal, step}
 use Rattle.dispatch.specs.Given.{taskState}
 use Rattle.dispatch.proofs.AfterRelease.{release-answered, release-state, release-others}
 use Rattle.dispatch.proofs.AfterFinish.{finish-state, finish-others}
@@ -28,7 +26,7 @@ use Rattle.dispatch.proofs.Always.{refused-same}
 use Rattle.dispatch.proofs.Answers.{release-refused, look-taken}
 use Rattle.dispatch.proofs.OneCall.{release-no, finish-no, look-no}
 use Rattle.dispatch.proofs.Passed.{release-passed, finish-passed}
-use Rattle.release_order.specs.Releases.{Came, cameIn, cameBy}
+use Rattle.release_order.specs.Releases.{Came, cameBy}
 
 -- an accepted release
 abbrev pub one : ℕ → ℕ → List Came

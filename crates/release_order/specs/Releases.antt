@@ -1,9 +1,7 @@
 -- A task's accepted releases over any calls, document 02, R-2. Tasks are counted from 1.
 use Prim.Native.Nat.{ℕ, _+_, _-_, _≤_, _<_}
-use mathlib.Core.Path.{_≡_}
-use mathlib.Core.Logic.{_⊎_}
 use mathlib.Core.Bool.{cond}
-use mathlib.Core.List.{List, [], _∷_, _++_}
+use mathlib.Core.List.{List, [], _∷_, _++_, map}
 use Rattle.planning.specs.Tasks.{taskLine}
 use Rattle.dispatch.specs.declared.Record.{Record}
 use Rattle.dispatch.specs.declared.call.Call.{Call}
@@ -31,6 +29,10 @@ cameBy i r c = cond (releases i c) (cameIn (taskLine (r .plan) i .period .0) (ti
 abbrev pub cameOf : ℕ → Record → List Call → List Came
 cameOf i r [] = []
 cameOf i r (c ∷ cs) = cameBy i r c ++ cameOf i (step r c) cs
+
+-- their release times
+abbrev pub timesOf : List Came → List ℕ
+timesOf xs = map (λ (a : Came). a .released) xs
 
 -- after release time x each release time is its call's time, or the last one plus T where that is later
 pub data After (T : ℕ) : ℕ → List Came → Type 0 where

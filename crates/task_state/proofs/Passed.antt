@@ -7,7 +7,7 @@ use borrow.Author.Tests.{eqb-false, ltb-false}
 use lib.Dec.{ltb, eqb}
 use Rattle.units.specs.Limits.{commonLimit, clockLimit, runsLimit}
 use Rattle.lists.specs.Lists.{total}
-use Rattle.lists.proofs.Tests.{by-cases, or-false-left, or-false-right}
+use Rattle.lists.proofs.Tests.{by-cases, or-false-left}
 use Rattle.planning.specs.declared.Line.{Line}
 use Rattle.planning.specs.Plan.{rowOf}
 use Rattle.task_state.specs.declared.State.{State}
@@ -39,12 +39,9 @@ module _ (ln : Line) (st : State) (t : ℕ) where
         record { turn = turnable ln st f small shares; room = has-room (f .few); time = time; last = f .last; released = release-in }
 
   module _ (e : finishTests ln st t ≡ 0) where
-    -- a finish finds an oldest run, and that is not held
+    -- a finish finds an oldest run that is not held
     found : (eqb (st .live) 0 || held ln (runAt st 0) t) ≡ false
     found = by-cases (eqb (st .live) 0 || held ln (runAt st 0) t) (λ b. absurd (omega (arith, rw b at e))) (λ b. b)
 
     pub has-run : 0 < st .live
     has-run = omega (arith, eqb-false (st .live) 0 (or-false-left (eqb (st .live) 0) (held ln (runAt st 0) t) found))
-
-    pub run-released : held ln (runAt st 0) t ≡ false
-    run-released = or-false-right (eqb (st .live) 0) (held ln (runAt st 0) t) found

@@ -4,7 +4,6 @@ use mathlib.Core.Path.{_≡_, refl}
 use mathlib.Core.Bool.{true, false, _&&_}
 use lib.Dec.{ltb, eqb}
 use borrow.Author.Needs.{needs}
-use Rattle.units.specs.declared.ticks.Ticks.{Ticks}
 use Rattle.units.specs.Units.{ticks}
 use Rattle.release_times.specs.Times.{releaseTime}
 use Rattle.release_times.proofs.release_time.Statement.{statement}
