@@ -16,7 +16,7 @@ use Rattle.task_state.specs.State.{noState, runsOf}
 use Rattle.task_state.specs.Due.{releaseAt}
 use Rattle.task_state.specs.Runs.{turnAt, dueAt, withRun, takenRun}
 use Rattle.task_state.specs.Tests.{releaseTests}
-use Rattle.task_state.proofs.Facts.{Facts, facts}
+use Rattle.state_rules.proofs.Facts.{Facts, facts}
 use Rattle.task_state.proofs.Passed.{has-room}
 use Rattle.dispatch.specs.declared.Record.{Record}
 use Rattle.dispatch.specs.declared.call.Call.the-variants.{Release}

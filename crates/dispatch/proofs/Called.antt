@@ -8,8 +8,8 @@ use Rattle.soundness.proofs.Facts.{tasks-few, cores-few, weight-small, shares-s
 use Rattle.task_state.specs.Tests.{releaseTests, finishTests}
 use Rattle.task_state.specs.Key.{deadlineOf}
 use Rattle.task_state.specs.Inner.{Releasable}
-use Rattle.task_state.proofs.Facts.{facts}
-use Rattle.task_state.proofs.Passed.{releasable, has-run}
+use Rattle.state_rules.proofs.Facts.{facts, releasable}
+use Rattle.task_state.proofs.Passed.{has-run}
 use Rattle.dispatch.specs.declared.Record.{Record}
 use Rattle.dispatch.specs.Record.{lineAt, stateAt}
 use Rattle.dispatch.specs.Look.{bestOf, atTime}
@@ -52,7 +52,7 @@ task-call {r} {i} {t} e =
       due-fits = omega (arith, due-small r k (i - 1) h);
       release-number = rw (eq-eqb (taskTests r i t) 0 e);
       finish-number = rw (eq-eqb (taskTests r i t) 0 e);
-      can-release = λ z. releasable ln st t z f weight shares (p .limit);
+      can-release = λ z. releasable ln st f t z weight shares (p .limit);
       can-finish = λ z. has-run ln st t z;
     }
 

@@ -13,7 +13,7 @@ use Rattle.planning.specs.declared.Plan.{Plan}
 use Rattle.soundness.specs.Plan.{planSound}
 use Rattle.task_state.specs.State.{freshState, noState}
 use Rattle.task_state.specs.Shape.{Shaped as StateShaped}
-use Rattle.task_state.proofs.Fresh.{fresh-shaped, fresh-sound, fresh-empty}
+use Rattle.state_rules.proofs.Fresh.{fresh-shaped, fresh-sound, fresh-empty}
 use Rattle.dispatch.specs.Record.{recordOf, lineAt, stateAt}
 use Rattle.dispatch.specs.Sound.{stateOk}
 use Rattle.dispatch.specs.Shape.{Good}

@@ -17,7 +17,7 @@ use Rattle.turn.proofs.SincePlan.{turn-goes, goes-among, goes-to-one}
 use Rattle.task_state.specs.declared.State.{State}
 use Rattle.task_state.specs.Due.{releaseAt}
 use Rattle.task_state.specs.Runs.{turnAt, dueAt, takenRun}
-use Rattle.task_state.proofs.Facts.{facts, turnable}
+use Rattle.state_rules.proofs.Facts.{facts, turnable}
 use Rattle.dispatch.specs.declared.Record.{Record}
 use Rattle.dispatch.specs.declared.call.Call.the-variants.{Release}
 use Rattle.dispatch.specs.declared.call.Answer.the-variants.{Released}

@@ -4,10 +4,10 @@ use mathlib.Core.Path.{_≡_, refl}
 use native.Mathlib.Decide.{ℕ-discrete}
 use Rattle.task_state.specs.Due.{releaseAt}
 use Rattle.task_state.specs.Runs.{withRun, takenRun, withoutRun}
-use Rattle.task_state.proofs.Facts.{facts, turnable}
+use Rattle.state_rules.proofs.Facts.{facts, turnable}
 use Rattle.task_state.proofs.Passed.{release-in, has-room}
-use Rattle.task_state.proofs.Taken.{with-shaped, with-sound}
-use Rattle.task_state.proofs.Ended.{without-shaped, without-sound}
+use Rattle.state_rules.proofs.Taken.{with-shaped, with-sound}
+use Rattle.state_rules.proofs.Ended.{without-shaped, without-sound}
 use Rattle.dispatch.specs.declared.Record.{Record}
 use Rattle.dispatch.specs.Record.{lineAt, stateAt}
 use Rattle.dispatch.specs.Refusals.{lookRefusal, releaseRefusal, finishRefusal}

@@ -11,7 +11,7 @@ use Rattle.units.proofs.Units.{nums-long}
 use Rattle.planning.specs.Plan.{rowOf}
 use Rattle.task_state.specs.declared.State.{State}
 use Rattle.task_state.specs.State.{noState}
-use Rattle.task_state.specs.Sound.{stateSound, stateEmpty}
+use Rattle.state_rules.specs.Sound.{stateSound, stateEmpty}
 use Rattle.dispatch.specs.declared.Record.{Record}
 use Rattle.dispatch.specs.Record.{lineAt, stateAt, moved}
 use Rattle.dispatch.specs.Look.{atTime}

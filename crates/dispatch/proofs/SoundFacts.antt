@@ -14,9 +14,9 @@ use Rattle.soundness.specs.Plan.{planSound}
 use Rattle.soundness.proofs.Facts.{tasks-few, period-small}
 use Rattle.planning.specs.declared.Line.{Line}
 use Rattle.task_state.specs.declared.State.{State}
-use Rattle.task_state.specs.Sound.{stateSound, runsEmpty, stateEmpty}
+use Rattle.state_rules.specs.Sound.{stateSound, runsEmpty, stateEmpty}
 use Rattle.task_state.specs.Key.{deadlineOf, waits}
-use Rattle.task_state.proofs.Facts.{facts, oldest-due}
+use Rattle.state_rules.proofs.Facts.{facts, oldest-due}
 use Rattle.task_state.proofs.Waits.{waits-told}
 use Rattle.dispatch.specs.declared.Record.{Record}
 use Rattle.dispatch.specs.Record.{lineAt, stateAt}

@@ -17,7 +17,7 @@ use Rattle.planning.specs.declared.Line.{Line}
 use Rattle.planning.specs.Plan.{rowOf}
 use Rattle.task_state.specs.declared.State.{State}
 use Rattle.task_state.specs.Key.{deadlineOf, keyOf}
-use Rattle.task_state.proofs.Facts.{facts, unfinished}
+use Rattle.state_rules.proofs.Facts.{facts, unfinished}
 use Rattle.task_state.proofs.Waits.{waits-told, told-waits}
 use Rattle.dispatch.specs.declared.Record.{Record}
 use Rattle.dispatch.specs.Record.{lineAt, stateAt}

@@ -11,7 +11,7 @@ use Rattle.planning.specs.Plan.{noLine}
 use Rattle.soundness.specs.Plan.{planSound}
 use Rattle.task_state.specs.declared.State.{State}
 use Rattle.task_state.specs.State.{noState}
-use Rattle.task_state.specs.Sound.{stateSound, stateEmpty}
+use Rattle.state_rules.specs.Sound.{stateSound, stateEmpty}
 use Rattle.dispatch.specs.declared.Record.{Record}
 
 -- task i is in use and sound, or past the N tasks and empty

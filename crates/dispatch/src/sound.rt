@@ -2,6 +2,7 @@
 use crate::Record;
 use planning::Plan;
 use soundness::plan::plan_sound;
+use state_rules::state_ok;
 use task_state::State;
 use units::limits::CLOCK;
 use units::limits::TASKS;
@@ -19,7 +20,7 @@ fn states_sound(plan: Plan, states: [State; TASKS]) -> bool
     while i < TASKS {
         let line = plan.lines[i];
         let state = states[i];
-        if !state.ok(i < count, line) {
+        if !state_ok(state, i < count, line) {
             return false;
         }
         i += 1;

@@ -12,7 +12,7 @@ use Rattle.planning.specs.Tasks.{taskLine}
 use Rattle.task_state.specs.declared.State.{State}
 use Rattle.task_state.specs.Due.{releaseAt}
 use Rattle.task_state.specs.Runs.{withRun, withoutRun}
-use Rattle.task_state.proofs.Facts.{facts}
+use Rattle.state_rules.proofs.Facts.{facts}
 use Rattle.task_state.proofs.Passed.{has-room}
 use Rattle.dispatch.specs.declared.Record.{Record}
 use Rattle.dispatch.specs.declared.call.Call.{Call}

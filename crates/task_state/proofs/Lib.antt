@@ -1,10 +1,4 @@
-pub mod Ruled
 pub mod Oldest
-pub mod RunFacts
-pub mod Facts
 pub mod Passed
-pub mod Taken
-pub mod Ended
 pub mod Waits
-pub mod Fresh
 pub mod Settled

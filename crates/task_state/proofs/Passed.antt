@@ -5,17 +5,13 @@ use mathlib.Core.Bool.{false, _||_}
 use native.Mathlib.Omega.{arith}
 use borrow.Author.Tests.{eqb-false, ltb-false}
 use lib.Dec.{ltb, eqb}
-use Rattle.units.specs.Limits.{commonLimit, clockLimit, runsLimit}
-use Rattle.lists.specs.Lists.{total}
+use Rattle.units.specs.Limits.{clockLimit, runsLimit}
 use Rattle.lists.proofs.Tests.{by-cases, or-false-left}
 use Rattle.planning.specs.declared.Line.{Line}
-use Rattle.planning.specs.Plan.{rowOf}
 use Rattle.task_state.specs.declared.State.{State}
 use Rattle.task_state.specs.State.{runAt}
 use Rattle.task_state.specs.Due.{releaseAt, held}
 use Rattle.task_state.specs.Tests.{releaseTests, finishTests}
-use Rattle.task_state.specs.Inner.{Releasable}
-use Rattle.task_state.proofs.Facts.{Facts, turnable}
 
 module _ (ln : Line) (st : State) (t : ℕ) where
   module _ (e : releaseTests ln st t ≡ 0) where
@@ -32,11 +28,6 @@ module _ (ln : Line) (st : State) (t : ℕ) where
         by-cases (eqb (st .live) runsLimit)
         (λ b. absurd (omega (arith, rw (in-range, b) at e)))
         (λ b. omega (arith, eqb-false (st .live) runsLimit b))
-
-    -- so it can be taken, where the plan's numbers are in range and the shares sum to the weight
-    pub releasable : Facts ln st → ln .weight .0 ≤ commonLimit → total (rowOf ln) ≡ ln .weight .0 → t ≤ clockLimit → Releasable ln st t
-    releasable f small shares time =
-        record { turn = turnable ln st f small shares; room = has-room (f .few); time = time; last = f .last; released = release-in }
 
   module _ (e : finishTests ln st t ≡ 0) where
     -- a finish finds an oldest run that is not held

@@ -1,6 +1,5 @@
 pub mod State
 pub mod Due
-pub mod Sound
 pub mod Runs
 pub mod Key
 pub mod Shape

@@ -6,7 +6,7 @@ ghost use Rattle.units.specs.Units.{duration};
 ghost use Rattle.task_state.specs.Due.{dueAfter};
 
 // How long after its release a run is due.
-pub(crate) fn due_after(line: Line) -> Duration
+pub fn due_after(line: Line) -> Duration
     ensures { λ r. ⌜ r ≡ duration (dueAfter line) ⌝ }
 {
     line.period

@@ -1,7 +1,6 @@
 // What a task is at, beside its line of the plan.
-mod due;
+pub mod due;
 pub mod key;
-pub mod rules;
 pub mod runs;
 pub mod tests;
 

@@ -15,7 +15,7 @@ use Rattle.soundness.proofs.Ranges.{in-range, sound-in, sound-small}
 use Rattle.soundness.proofs.Facts.{task-sound}
 use Rattle.soundness.proofs.Lined.{lined}
 use Rattle.task_state.specs.State.{noState, runAt}
-use Rattle.task_state.proofs.Facts.{Facts, facts, unfinished, past as past-runs}
+use Rattle.state_rules.proofs.Facts.{Facts, facts, unfinished, past as past-runs}
 use Rattle.dispatch.specs.declared.Record.{Record}
 use Rattle.dispatch.specs.Record.{lineAt, stateAt}
 use Rattle.dispatch.specs.Shape.{Shaped}

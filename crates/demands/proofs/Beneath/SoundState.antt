@@ -21,9 +21,9 @@ use Rattle.task_state.specs.declared.State.{State}
 use Rattle.task_state.specs.State.{runAt}
 use Rattle.task_state.specs.Shape.{Shaped as StateShaped}
 use Rattle.stored_runs.specs.Run.{runEmpty}
-use Rattle.task_state.specs.Sound.{runRule, runsEmpty, stateEmpty}
-use Rattle.task_state.proofs.RunFacts.{from-run-facts}
-use Rattle.task_state.proofs.Facts.{from-facts}
+use Rattle.state_rules.specs.Sound.{runRule, runsEmpty, stateEmpty}
+use Rattle.state_rules.proofs.RunFacts.{from-run-facts}
+use Rattle.state_rules.proofs.Facts.{from-facts}
 use Rattle.dispatch.specs.declared.Record.{Record}
 use Rattle.dispatch.specs.Record.{lineAt, stateAt}
 use Rattle.dispatch.specs.Shape.{Shaped}

@@ -33,14 +33,15 @@ mul-state c = omega arith
 array-copy-out-state : tie.Need-array-copy-out-state Inv-loop μ-loop
 array-copy-out-state c = omega arith
 
-ok-requires : tie.Need-ok-requires Inv-loop μ-loop
-ok-requires c κs = search needs
+state-ok-requires : tie.Need-state-ok-requires Inv-loop μ-loop
+state-ok-requires c κs = search needs
 
 returns : tie.Need-returns Inv-loop μ-loop
 returns c =
     let s = c .before .before .before .before .before .before .args in
     let i = c .before .before .before .before .before .loop .i in
-    sym (all-fails tasksLimit i (stateOk (s .t1) (s .t2)) (omega arith) (sym (c .before .ok .ensures) ∙ not-true (c .before .ok .result) (c .if1 .taken)))
+    let fails = sym (c .before .state-ok .ensures) ∙ not-true (c .before .state-ok .result) (c .if1 .taken) in
+    sym (all-fails tasksLimit i (stateOk (s .t1) (s .t2)) (omega arith) fails)
 
 add-i : tie.Need-add-i Inv-loop μ-loop
 add-i c = omega arith
@@ -52,7 +53,8 @@ loop-again : tie.Need-loop-again Inv-loop μ-loop
 loop-again c =
     let s = c .before .before .before .before .before .before .args in
     let at = c .before .before .before .before .before .loop in
-    (omega arith, all-more (at .i) (stateOk (s .t1) (s .t2)) (at .inv .1) (sym (c .before .ok .ensures) ∙ not-false (c .before .ok .result) (c .if1 .left)))
+    let holds = sym (c .before .state-ok .ensures) ∙ not-false (c .before .state-ok .result) (c .if1 .left) in
+    (omega arith, all-more (at .i) (stateOk (s .t1) (s .t2)) (at .inv .1) holds)
 
 returns-2 : tie.Need-returns-2 Inv-loop μ-loop
 returns-2 c =
@@ -70,7 +72,7 @@ states-sound-spec =
     element-copy-out-line
     mul-state
     array-copy-out-state
-    ok-requires
+    state-ok-requires
     returns
     add-i
     loop-less

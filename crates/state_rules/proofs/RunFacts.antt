@@ -10,7 +10,7 @@ use Rattle.lists.proofs.Tests.{and-left, and-right}
 use Rattle.planning.specs.declared.Line.{Line}
 use Rattle.planning.specs.Plan.{rowOf}
 use Rattle.stored_runs.specs.declared.Run.{Run}
-use Rattle.task_state.specs.Sound.{runSound}
+use Rattle.state_rules.specs.Sound.{runSound}
 
 pub record RunFacts (ln : Line) (r : Run) : Type 0 where
   pub from : 0 < r .core

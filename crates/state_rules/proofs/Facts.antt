@@ -13,12 +13,15 @@ use Rattle.lists.proofs.Below.{all-at, all-from}
 use Rattle.planning.specs.declared.Line.{Line}
 use Rattle.planning.specs.Plan.{rowOf}
 use Rattle.turn.specs.Inner.{Turnable}
 use Rattle.task_state.specs.declared.State.{State}
 use Rattle.task_state.specs.State.{runAt}
 use Rattle.stored_runs.specs.Run.{runEmpty}
-use Rattle.task_state.specs.Sound.{runRule, runsSound, turnSound, lastSound, stateSound}
+use Rattle.state_rules.specs.Sound.{runRule, runsSound, turnSound, lastSound, stateSound}
 use Rattle.task_state.specs.Key.{deadlineOf}
-use Rattle.task_state.proofs.RunFacts.{RunFacts, run-facts}
+use Rattle.task_state.specs.Tests.{releaseTests}
+use Rattle.task_state.specs.Inner.{Releasable}
+use Rattle.task_state.proofs.Passed.{release-in, has-room}
+use Rattle.state_rules.proofs.RunFacts.{RunFacts, run-facts}
 
 pub record Facts (ln : Line) (st : State) : Type 0 where
   pub few : st .live ≤ runsLimit
@@ -87,3 +90,9 @@ module _ (ln : Line) (st : State) (f : Facts ln st) where
   -- the turn step can be asked for, if the shares sum to the weight
   pub turnable : ln .weight .0 ≤ commonLimit → total (rowOf ln) ≡ ln .weight .0 → Turnable (ln .weight .0) (st .place) (rowOf ln) (st .counts)
   turnable h e = record { small = h; below = f .below; shares = e; counts = f .counts }
+
+  -- and a release that its task does not refuse can be taken
+  pub releasable : (t : ℕ) → releaseTests ln st t ≡ 0 → ln .weight .0 ≤ commonLimit → total (rowOf ln) ≡ ln .weight .0 → t ≤ clockLimit
+      → Releasable ln st t
+  releasable t e small shares time =
+      record { turn = turnable small shares; room = has-room ln st t e (f .few); time = time; last = f .last; released = release-in ln st t e }

@@ -1,4 +1,4 @@
--- `task_state::State::runs_sound` meets its contract.
+-- `state_rules::runs_sound` meets its contract.
 use Prim.Native.Nat.{ℕ, _+_, _-_, _≤_, _<_}
 use mathlib.Core.Path.{_≡_, sym, _∙_}
 use mathlib.Core.Logic.{⊎-elim}
@@ -11,20 +11,20 @@ use Rattle.lists.specs.Below.{allBelow}
 use Rattle.lists.proofs.Below.{all-none, all-more, all-fails}
 use Rattle.planning.specs.declared.Line.{Line}
 use Rattle.stored_runs.specs.declared.Run.{Run}
 use Rattle.task_state.specs.declared.State.{State}
 use Rattle.task_state.specs.State.{runAt}
 use Rattle.task_state.specs.Due.{dueAfter}
-use Rattle.task_state.specs.Sound.{runRule, runsSound}
-use Rattle.task_state.proofs.Ruled.{ruleBy, placed, placed-in, unplaced, unfinished, rule-by, past}
-use Rattle.task_state.proofs.State.runs_sound.Statement.{statement}
-use Rattle.task_state.proofs.State.runs_sound.Tie as tie
+use Rattle.state_rules.specs.Sound.{runRule, runsSound}
+use Rattle.state_rules.proofs.Ruled.{ruleBy, placed, placed-in, unplaced, unfinished, rule-by, past}
+use Rattle.state_rules.proofs.runs_sound.Statement.{statement}
+use Rattle.state_rules.proofs.runs_sound.Tie as tie
 
 -- the runs so far keep their rules
 abbrev Inv-loop : tie.InvT-loop
-Inv-loop self live shares latest k₀ k = (k ≤ runsLimit) × (allBelow k (λ j. ruleBy shares latest self j) ≡ true)
+Inv-loop state live shares latest k₀ k = (k ≤ runsLimit) × (allBelow k (λ j. ruleBy shares latest state j) ≡ true)
 
 abbrev μ-loop : tie.MeasureT-loop
-μ-loop self live shares latest k₀ k = runsLimit - k
+μ-loop state live shares latest k₀ k = runsLimit - k
 
 -- where a run is read: its line, its state and its place
 abbrev Here : Type 0

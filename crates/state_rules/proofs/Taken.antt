@@ -15,13 +15,13 @@ use Rattle.planning.specs.declared.Line.{Line}
 use Rattle.planning.specs.Plan.{rowOf}
 use Rattle.turn.specs.Inner.{Turnable}
 use Rattle.turn.proofs.Keeps.{Kept, turn-keeps}
 use Rattle.task_state.specs.declared.State.{State}
 use Rattle.stored_runs.specs.Run.{run}
-use Rattle.task_state.specs.Sound.{runRule, stateSound}
+use Rattle.state_rules.specs.Sound.{runRule, stateSound}
 use Rattle.task_state.specs.Runs.{turnAt, withRun}
-use Rattle.task_state.proofs.RunFacts.{from-run-facts}
-use Rattle.task_state.proofs.Facts.{facts, from-facts}
+use Rattle.state_rules.proofs.RunFacts.{from-run-facts}
+use Rattle.state_rules.proofs.Facts.{facts, from-facts}
 use Rattle.task_state.specs.Shape.{Shaped}
 
 -- below one more is below, but for the last
 below-more : (k n : ℕ) → (k ≡ n → ⊥) → ltb k (n + 1) ≡ ltb k n

@@ -10,12 +10,12 @@ use Rattle.units.specs.Limits.{runsLimit}
 use Rattle.units.specs.Units.{ticks}
 use Rattle.lists.proofs.Tests.{by-cases, same-bool}
 use Rattle.planning.specs.declared.Line.{Line}
 use Rattle.task_state.specs.declared.State.{State}
-use Rattle.task_state.specs.Sound.{runRule, stateSound}
+use Rattle.state_rules.specs.Sound.{runRule, stateSound}
 use Rattle.task_state.specs.Runs.{withoutRun}
 use Rattle.task_state.proofs.Oldest.{next-up, up-long}
-use Rattle.task_state.proofs.Facts.{facts, from-facts}
+use Rattle.state_rules.proofs.Facts.{facts, from-facts}
 use Rattle.task_state.specs.Shape.{Shaped}
 
 -- the lengths stay
 pub without-shaped : (st : State) → Shaped st → Shaped (withoutRun st)

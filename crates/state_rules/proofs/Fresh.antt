@@ -5,9 +5,9 @@ use mathlib.Core.Bool.{true}
 use borrow.Author.Tests.{lt-ltb}
 use Rattle.lists.specs.Below.{allBelow}
 use Rattle.planning.specs.declared.Line.{Line}
 use Rattle.task_state.specs.State.{freshState}
-use Rattle.task_state.specs.Sound.{stateSound, stateEmpty}
+use Rattle.state_rules.specs.Sound.{stateSound, stateEmpty}
 use Rattle.task_state.specs.Shape.{Shaped}
 
 -- sound
 pub fresh-sound : (ln : Line) → 0 < ln .weight .0 → stateSound ln freshState ≡ true

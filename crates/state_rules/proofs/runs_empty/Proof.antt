@@ -1,4 +1,4 @@
--- `task_state::State::runs_empty` meets its contract.
+-- `state_rules::runs_empty` meets its contract.
 use Prim.Native.Nat.{_-_, _≤_}
 use mathlib.Core.Path.{_≡_, sym, _∙_}
 use mathlib.Core.Bool.{true}
@@ -8,17 +8,17 @@ use borrow.Author.Tests.{not-true, not-false}
 use Rattle.units.specs.Limits.{runsLimit}
 use Rattle.lists.specs.Below.{allBelow}
 use Rattle.lists.proofs.Below.{all-none, all-more, all-fails}
 use Rattle.task_state.specs.State.{runAt}
 use Rattle.stored_runs.specs.Run.{runEmpty}
-use Rattle.task_state.proofs.State.runs_empty.Statement.{statement}
-use Rattle.task_state.proofs.State.runs_empty.Tie as tie
+use Rattle.state_rules.proofs.runs_empty.Statement.{statement}
+use Rattle.state_rules.proofs.runs_empty.Tie as tie
 
 -- the runs so far are empty
 abbrev Inv-loop : tie.InvT-loop
-Inv-loop self k₀ k = (k ≤ runsLimit) × (allBelow k (λ j. runEmpty (runAt self j)) ≡ true)
+Inv-loop state k₀ k = (k ≤ runsLimit) × (allBelow k (λ j. runEmpty (runAt state j)) ≡ true)
 
 abbrev μ-loop : tie.MeasureT-loop
-μ-loop self k₀ k = runsLimit - k
+μ-loop state k₀ k = runsLimit - k
 
 loop-holds : tie.Need-loop-holds Inv-loop μ-loop
 loop-holds c = (omega arith, all-none _)

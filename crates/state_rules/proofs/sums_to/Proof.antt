@@ -1,4 +1,4 @@
--- `task_state::rules::sums_to` meets its contract.
+-- `state_rules::sums_to` meets its contract.
 use Prim.Native.Nat.{_*_, _-_, _≤_}
 use mathlib.Core.Path.{_≡_}
 use native.Mathlib.Numerals.{add-one}
@@ -9,8 +9,8 @@ use borrow.Author.Needs.{needs}
 use Rattle.units.specs.Limits.{coresLimit}
 use Rattle.lists.specs.Lists.{total}
 use Rattle.lists.proofs.Lists.{sum-take-suc}
-use Rattle.task_state.proofs.rules.sums_to.Statement.{statement}
-use Rattle.task_state.proofs.rules.sums_to.Tie as tie
+use Rattle.state_rules.proofs.sums_to.Statement.{statement}
+use Rattle.state_rules.proofs.sums_to.Tie as tie
 
 -- the counts so far are added
 abbrev Inv-loop : tie.InvT-loop

@@ -14,11 +14,11 @@ use Rattle.lists.specs.Lists.{total}
 use Rattle.lists.proofs.Tests.{by-cases, and-left, and-right}
 use Rattle.planning.specs.declared.Line.{Line}
 use Rattle.stored_runs.specs.declared.Run.{Run}
 use Rattle.task_state.specs.declared.State.{State}
 use Rattle.task_state.specs.State.{runAt}
 use Rattle.task_state.specs.Due.{dueAfter}
 use Rattle.stored_runs.specs.Run.{runEmpty}
-use Rattle.task_state.specs.Sound.{runRule, runsSound, lastSound, stateSound, runsEmpty, stateEmpty}
+use Rattle.state_rules.specs.Sound.{runRule, runsSound, lastSound, stateSound, runsEmpty, stateEmpty}
 
 -- a run's core is from 1 to 16
 abbrev pub placed : Run → Bool

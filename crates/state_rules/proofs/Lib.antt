@@ -1,0 +1,7 @@
+pub mod Ruled
+pub mod RunFacts
+pub mod Facts
+pub mod Taken
+pub mod Ended
+pub mod Fresh
+pub mod Settled
