@@ -52,7 +52,7 @@ task-call {r} {i} {t} e =
       due-fits = omega (arith, due-small r k (i - 1) h);
       release-number = rw (eq-eqb (taskTests r i t) 0 e);
       finish-number = rw (eq-eqb (taskTests r i t) 0 e);
-      can-release = λ z. releasable ln st f t z weight shares (p .limit);
+      can-release = λ z. releasable ln st f t z weight shares;
       can-finish = λ z. has-run ln st t z;
     }
 

@@ -92,7 +92,6 @@ module _ (ln : Line) (st : State) (f : Facts ln st) where
   turnable h e = record { small = h; below = f .below; shares = e; counts = f .counts }
 
   -- and a release that its task does not refuse can be taken
-  pub releasable : (t : ℕ) → releaseTests ln st t ≡ 0 → ln .weight .0 ≤ commonLimit → total (rowOf ln) ≡ ln .weight .0 → t ≤ clockLimit
-      → Releasable ln st t
-  releasable t e small shares time =
-      record { turn = turnable small shares; room = has-room ln st t e (f .few); time = time; last = f .last; released = release-in ln st t e }
+  pub releasable : (t : ℕ) → releaseTests ln st t ≡ 0 → ln .weight .0 ≤ commonLimit → total (rowOf ln) ≡ ln .weight .0 → Releasable ln st t
+  releasable t e small shares =
+      record { turn = turnable small shares; room = has-room ln st t e (f .few); last = f .last; released = release-in ln st t e }

@@ -11,6 +11,5 @@ use Rattle.task_state.specs.Due.{releaseAt}
 pub record Releasable (ln : Line) (st : State) (t : ℕ) : Type 0 where
   pub turn : Turnable (ln .weight .0) (st .place) (rowOf ln) (st .counts)
   pub room : st .live < runsLimit
-  pub time : t ≤ clockLimit
   pub last : st .last .0 ≤ clockLimit
   pub released : releaseAt ln st t ≤ clockLimit

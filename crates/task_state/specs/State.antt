@@ -1,4 +1,4 @@
--- What a task is at: its last release, its unfinished runs, its turn counts and their place.
+-- What a task is at: its last release time, its unfinished runs, its turn counts and their place.
 use Prim.Native.Nat.{ℕ, zero, suc}
 use mathlib.Core.List.{List, [], _∷_, _++_}
 use lib.ListN.{getD, replicate}

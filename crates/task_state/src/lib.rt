@@ -8,7 +8,7 @@ use units::limits::CORES;
 use units::limits::RUNS;
 use units::ticks::Ticks;
 
-// What a task is at: its last release, its unfinished runs' deadlines and cores from 1, oldest first, its turn counts and their place in the cycle,
+// What a task is at: its last release time, its unfinished runs' deadlines and cores from 1, oldest first, its turn counts and their place in the cycle,
 // how many runs are unfinished, and 1 if it had a release, else 0.
 // No padding, and each number of any value: the record can be lent as it is.
 #[repr(C)]

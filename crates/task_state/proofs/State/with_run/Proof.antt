@@ -45,7 +45,7 @@ add-due c =
     let t = c .before .before .before in
     let s = t .before .before .before .before .before .before in
     let in-time : t .release-time .result .0 ≤ clockLimit = rw (t .release-time .ensures) (s .pre .released) in
-    omega (arith, in-time, s .pre .time)
+    omega (arith, in-time)
 
 cast-at : tie.Need-cast-at
 cast-at c = search needs
