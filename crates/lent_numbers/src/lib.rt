@@ -10,3 +10,12 @@ pub fn store(numbers: &mut [u32], at: usize, x: u32)
         numbers[at] = x;
     }
 }
+
+// The same for a list of numbers of 64 bits.
+pub fn store_wide(wide: &mut [u64], at: usize, x: u64)
+    ensures { λ _. ⌜ now (wide .exit) ≡ set (now (wide .entry)) at x ⌝ }
+{
+    if at < wide.len() {
+        wide[at] = x;
+    }
+}

@@ -8,7 +8,7 @@ ghost use lib.ListN.{length};
 ghost use Rattle.line_place.specs.Place.{lineStarts, lineHere, linePlace};
 
 // Whether a line starts at a place.
-fn line_starts(text: &[u8], at: usize) -> bool
+pub fn line_starts(text: &[u8], at: usize) -> bool
     requires { ⌜ at < length (now text) ⌝ }
     ensures { λ r. ⌜ r ≡ lineStarts (now (text .entry)) at ⌝ }
 {

@@ -17,7 +17,7 @@ use Rattle.task_state.specs.Shape.{Shaped}
 use Rattle.task_state.proofs.Oldest.{next-up}
 
 -- the deadline of a task's k-th unfinished run
-abbrev due : State → ℕ → ℕ
+abbrev pub due : State → ℕ → ℕ
 due st k = runAt st k .deadline .0
 
 pub record InOrder (ln : Line) (st : State) : Type 0 where
@@ -46,11 +46,11 @@ module _ (ln : Line) (st : State) (o : InOrder ln st) where
     x = releaseAt ln st t
 
     -- the runs that stood there stay, and the new one is due from its release time on
-    stood : (k : ℕ) → k < st .live → due (withRun ln st x) k ≡ due st k
+    pub stood : (k : ℕ) → k < st .live → due (withRun ln st x) k ≡ due st k
     unfolding withRun
     stood k l = ap (λ (d : Ticks). d .0) (getD-set-other (st .deadlines) (st .live) k (ticks (x + dueAfter ln)) (ticks 0) (λ e. omega arith))
 
-    new : due (withRun ln st x) (st .live) ≡ x + dueAfter ln
+    pub new : due (withRun ln st x) (st .live) ≡ x + dueAfter ln
     unfolding withRun
     new =
         ap (λ (d : Ticks). d .0)
@@ -81,7 +81,7 @@ module _ (ln : Line) (st : State) (o : InOrder ln st) where
         old k l (no n) = rw (stood k (omega arith)) (o .long k (omega arith))
 
   -- without the oldest each stands one place before
-  up : (k : ℕ) → due (withoutRun st) k ≡ due st (suc k)
+  pub up : (k : ℕ) → due (withoutRun st) k ≡ due st (suc k)
   unfolding withoutRun
   up k = ap (λ (d : Ticks). d .0) (next-up (ticks 0) (st .deadlines) k)
 

@@ -5,7 +5,7 @@ use lib.Dec.{eqb}
 use Rattle.units.specs.declared.refusal.Numbers.{Numbers}
 use Rattle.units.specs.declared.refusal.Refusal.{Refusal}
 
--- a refusal's number, and the task or the line that it names
+-- a refusal's number, and the task, the line or the arrival that it names
 abbrev pub refusal : ℕ → ℕ → Refusal
 refusal n i = record { no = n; named = i }
 
@@ -85,6 +85,18 @@ nameNo = 18
 abbrev pub tickNo : ℕ
 tickNo = 19
 
+-- an arrival can't be read, is beyond 4,096 or is for a task not in the table
+abbrev pub arrivalNo : ℕ
+arrivalNo = 25
+
+-- an arrival's length is outside 1 to its task's cost
+abbrev pub lengthNo : ℕ
+lengthNo = 26
+
+-- an arrival's time is below the one before
+abbrev pub orderNo : ℕ
+orderNo = 27
+
 -- what an accepted call answers; what was lent for it where the call is refused
 abbrev pub orKept : {A : Type 0} → ℕ → A → A → A
 orKept n answered lent = cond (eqb n 0) answered lent
@@ -110,4 +122,7 @@ theNumbers = record {
   sheet = sheetNo;
   name = nameNo;
   tick = tickNo;
+  arrival = arrivalNo;
+  length = lengthNo;
+  order = orderNo;
 }

@@ -2,7 +2,7 @@
 ghost use mathlib.Core.Path.{_≡_};
 ghost use Rattle.units.specs.Refusals.{theNumbers};
 
-// A refusal's number, and what it names: a task, or a line of a text. 0 and 0 for none.
+// A refusal's number, and what it names: a task, a line of a text, or an arrival. 0 and 0 for none.
 pub struct Refusal {
     pub no: u32,
     pub named: usize,
@@ -48,6 +48,12 @@ impl Refusal {
     pub const NAME: u32 = 18;
     // An office sheet's first line can't be read, or its tick length is out of range.
     pub const TICK: u32 = 19;
+    // An arrival can't be read, is beyond 4,096 or is for a task not in the table.
+    pub const ARRIVAL: u32 = 25;
+    // An arrival's length is outside 1 to its task's cost.
+    pub const LENGTH: u32 = 26;
+    // An arrival's time is below the one before.
+    pub const ORDER: u32 = 27;
 }
 
 pub struct Numbers {
@@ -69,6 +75,9 @@ pub struct Numbers {
     pub sheet: u32,
     pub name: u32,
     pub tick: u32,
+    pub arrival: u32,
+    pub length: u32,
+    pub order: u32,
 }
 
 // The numbers that the code goes by are those that the definitions go by.
@@ -94,5 +103,8 @@ pub fn in_force() -> Numbers
         sheet: Refusal::SHEET,
         name: Refusal::NAME,
         tick: Refusal::TICK,
+        arrival: Refusal::ARRIVAL,
+        length: Refusal::LENGTH,
+        order: Refusal::ORDER,
     }
 }

@@ -4,7 +4,7 @@ use mathlib.Core.List.{List, [], _∷_, _++_}
 
 -- no writer is asked to answer a larger index
 abbrev pub placeLimit : ℕ
-placeLimit = 1000000
+placeLimit = 1000000000000000000
 
 -- a number below 100 with its leading zero
 abbrev pub twoDigits : ℕ → List ℕ

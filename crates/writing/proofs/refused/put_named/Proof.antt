@@ -1,6 +1,6 @@
 -- `writing::refused::put_named` meets its contract.
 use Rattle.writing.proofs.Wrote.{none, recast}
-use Rattle.writing.proofs.RefusalTexts.{names-line, names-none, names-task}
+use Rattle.writing.proofs.RefusalTexts.{names-line, names-none, names-arrival, names-task}
 use borrow.Author.Needs.{needs}
 use Rattle.writing.proofs.refused.put_named.Statement.{statement}
 use Rattle.writing.proofs.refused.put_named.Tie as tie
@@ -37,7 +37,24 @@ returns-3 : tie.Need-returns-3
 returns-3 c =
     let p = c .before .before in
     let i = p .before .before .before in
-    (recast (names-task _ (i .before .before .if1 .left) (i .if2 .left)) (p .put-field2 .ensures .0), search needs)
+    let e = i .before in
+    (recast (names-arrival _ (e .before .before .if1 .left) (e .if2 .left) (i .if3 .taken)) (p .put-field2 .ensures .0), search needs)
+
+slice-aggregate-put-field-3 : tie.Need-slice-aggregate-put-field-3
+slice-aggregate-put-field-3 c = search needs
+
+put-field-requires-3 : tie.Need-put-field-requires-3
+put-field-requires-3 c κs = search needs
+
+same-length-3 : tie.Need-same-length-3
+same-length-3 c = search needs
+
+returns-4 : tie.Need-returns-4
+returns-4 c =
+    let p = c .before .before in
+    let i = p .before .before .before in
+    let e = i .before in
+    (recast (names-task _ (e .before .before .if1 .left) (e .if2 .left) (i .if3 .left)) (p .put-field3 .ensures .0), search needs)
 
 pub put-named-spec : {M : Type 1} → statement M
 put-named-spec =
@@ -51,4 +68,8 @@ put-named-spec =
     slice-aggregate-put-field-2
     put-field-requires-2
     same-length-2
-    returns-3)
+    returns-3
+    slice-aggregate-put-field-3
+    put-field-requires-3
+    same-length-3
+    returns-4)
