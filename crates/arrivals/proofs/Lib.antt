@@ -1,0 +1,5 @@
+pub mod Tested
+pub mod Tried
+pub mod Passed
+pub mod Exactly
+pub mod Settled

@@ -1,0 +1,3 @@
+pub mod Arrivals
+pub mod Fine
+pub mod Inner

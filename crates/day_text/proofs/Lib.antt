@@ -1,0 +1,10 @@
+pub mod Places
+pub mod Lines
+pub mod Kept
+pub mod Answers
+pub mod Small
+pub mod Answered
+pub mod Cut
+pub mod Longer
+pub mod Examples
+pub mod Settled
