@@ -1,0 +1,13 @@
+pub mod Example
+pub mod Looked
+pub mod Ran
+pub mod Skip
+pub mod Same
+pub mod Kept
+pub mod Stands
+pub mod At
+pub mod Day
+pub mod Within
+pub mod Instant
+pub mod Jump
+pub mod Onward

@@ -1,0 +1,1 @@
+// A rehearsal, tick by tick: definitions and laws alone.

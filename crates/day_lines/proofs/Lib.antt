@@ -1,0 +1,4 @@
+pub mod Windows
+pub mod Texts
+pub mod Events
+pub mod Settled
