@@ -1,0 +1,14 @@
+pub mod Model
+pub mod Said
+pub mod Refusals
+pub mod Choices
+pub mod Span
+pub mod Spans
+pub mod Steps
+pub mod Told
+pub mod Tasks
+pub mod Finishes
+pub mod Left
+pub mod Counts
+pub mod Arrivals
+pub mod Example
