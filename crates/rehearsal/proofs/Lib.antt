@@ -1,0 +1,5 @@
+pub mod Parted
+pub mod Here
+pub mod Rehearsing
+pub mod AtStop
+pub mod Settled

@@ -1,0 +1,4 @@
+pub mod Parts
+pub mod Desk
+pub mod Inner
+pub mod Left
