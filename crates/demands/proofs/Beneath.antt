@@ -21,3 +21,6 @@ pub mod SaysTable
 pub mod Program
 pub mod HostCalls
 pub mod Sheets
+pub mod Arrivals
+pub mod Rehearsed
+pub mod Rehearse

@@ -37,7 +37,7 @@ use Rattle.demands.proofs.Beneath.Lists.{is-taken, first, then-14, none
 use Rattle.demands.proofs.Beneath.Bytes.{table-out, tasks-are, cost-is, period-is}
 use Rattle.demands.proofs.Beneath.HostLists.{admitted, first as answered-first, then-14 as answered-14, the-length as answered-length, refused as answered-refused, accepted as answered-accepted}
 use Rattle.dispatch.proofs.Refused.{refused-unsound}
-use Rattle.demands.proofs.Beneath.RefusalLines.{alone, with-task, with-line}
+use Rattle.demands.proofs.Beneath.RefusalLines.{alone, with-arrival, with-task, with-line}
 use Rattle.demands.proofs.Beneath.Program.{reading, unread-kept, first-16, then-planning, else-listed}
 use Rattle.demands.proofs.Beneath.SaysTable.{says-table}
 
@@ -201,12 +201,17 @@ pub refused-alone : (n : ℕ) → (n ≡ 16 → ⊥) → refusalText (refusal n 
 refused-alone = alone
 
 -- `refused 3 task 2`
-pub refused-task : (n i : ℕ) → (n ≡ 16 → ⊥) → 0 < i → refusalText (refusal n i) ≡ ascii "refused " ++ decimalOf n ++ ascii " task " ++ decimalOf i ++ ascii "\n"
+pub refused-task : (n i : ℕ) → n < 16 → 0 < i → refusalText (refusal n i) ≡ ascii "refused " ++ decimalOf n ++ ascii " task " ++ decimalOf i ++ ascii "\n"
 refused-task = with-task
 
 -- `refused 16 line 4`
 pub refused-line : (line : ℕ) → refusalText (refusal 16 line) ≡ ascii "refused 16 line " ++ decimalOf line ++ ascii "\n"
 refused-line = with-line
+
+-- `refused 25 arrival 3`
+pub refused-arrival : (n i : ℕ) → 25 ≤ n → n ≤ 27 → 0 < i
+    → refusalText (refusal n i) ≡ ascii "refused " ++ decimalOf n ++ ascii " arrival " ++ decimalOf i ++ ascii "\n"
+refused-arrival = with-arrival
 
 -- a text s: its reading is refused by 16, naming a line, exactly if it can't be read there, and then no lent number changes
 module _ (s : List ℕ) (line : ℕ) where

@@ -10,3 +10,4 @@ pub mod Early
 pub mod Examples
 pub mod Host
 pub mod Office
+pub mod Rehearsal
