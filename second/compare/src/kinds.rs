@@ -1,8 +1,8 @@
-//! The five kinds of cases.
+//! The six kinds of cases.
 
 use crate::batch::Batch;
 use crate::random::Random;
-use crate::{calls, host, lent_records, sheets, texts};
+use crate::{calls, host, lent_records, rehearsals, sheets, texts};
 
 pub struct Kind {
     pub name: &'static str,
@@ -14,11 +14,11 @@ pub struct Kind {
     pub batch: fn(&mut Random) -> Batch,
     /// The refusals that this kind can meet; one that it meets besides is a fault. No kind meets 9.
     pub refusals: &'static [usize],
-    /// Whether a long run must meet each of them here; a kind with one case a process asks too little for that.
+    /// Whether a long run must meet each of them here; a kind with one case a process asks too little for that, unless each is drawn often.
     pub meets_all: bool,
 }
 
-pub const KINDS: [Kind; 5] = [
+pub const KINDS: [Kind; 6] = [
     Kind {
         name: "plan",
         programs: &["plan"],
@@ -58,5 +58,13 @@ pub const KINDS: [Kind; 5] = [
         batch: sheets::batch,
         refusals: &[1, 2, 3, 4, 5, 6, 16, 17, 18, 19],
         meets_all: false,
+    },
+    Kind {
+        name: "rehearsals",
+        programs: &["rehearse"],
+        cases: "days",
+        batch: rehearsals::batch,
+        refusals: &[1, 2, 3, 4, 5, 6, 10, 12, 16, 25, 26, 27],
+        meets_all: true,
     },
 ];

@@ -10,6 +10,7 @@ pub mod lent_records;
 pub mod options;
 pub mod pattern;
 pub mod random;
+pub mod rehearsals;
 pub mod report;
 pub mod run;
 pub mod save;

@@ -18,7 +18,7 @@ pub struct Options {
 
 impl Options {
     pub const USAGE: &str = "usage: compare --plan CMD --calls CMD --host CMD --lent_records CMD \
-         --sheet CMD --table CMD --office CMD [--seed N] [--seconds S]";
+         --sheet CMD --table CMD --office CMD --rehearse CMD [--seed N] [--seconds S]";
 
     /// Reads pairs of a name and its value.
     pub fn read(mut words: impl Iterator<Item = String>) -> Result<Self, String> {

@@ -4,7 +4,7 @@ use crate::batch::Batch;
 use std::time::Duration;
 
 /// Refusal numbers end here.
-pub const REFUSALS: usize = 19;
+pub const REFUSALS: usize = 27;
 
 #[derive(Clone, Copy, Default)]
 pub struct Tally {

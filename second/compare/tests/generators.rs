@@ -41,6 +41,7 @@ fn every_refusal_is_met() {
     meets_all("calls", 400);
     meets_all("lent_records", 40);
     meets_all("sheets", 600);
+    meets_all("rehearsals", 300);
 }
 
 #[test]

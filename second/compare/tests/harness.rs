@@ -8,7 +8,7 @@ use std::path::{Path, PathBuf};
 use std::process::{Command, Output};
 
 /// Each program, and the kind that asks it.
-const PROGRAMS: [[&str; 2]; 7] = [
+const PROGRAMS: [[&str; 2]; 8] = [
     ["plan", "plan"],
     ["host", "host"],
     ["calls", "calls"],
@@ -16,6 +16,7 @@ const PROGRAMS: [[&str; 2]; 7] = [
     ["sheet", "sheets"],
     ["table", "sheets"],
     ["office", "sheets"],
+    ["rehearse", "rehearsals"],
 ];
 
 /// The example `stand_in`, which is built beside the program.
@@ -139,6 +140,19 @@ fn wrong_answers_of_early_runs() {
 }
 
 #[test]
+fn wrong_answers_of_rehearsals() {
+    for fault in [
+        "late_finish",
+        "arrivals_after_looks",
+        "falling_finishes",
+        "jumped_held",
+        "joined_spans",
+    ] {
+        finds("rehearse", "rehearsals", fault);
+    }
+}
+
+#[test]
 fn words_that_are_wrong() {
     let folder = folder("words");
     for words in [
@@ -161,7 +175,7 @@ fn what_is_not_asked_is_said() {
     let plan = format!("{} plan", stand_in().display());
     let words = ["--plan", &plan, "--seconds", "0"];
     let said = text(&run(&folder("not-asked"), &words));
-    for kind in ["host", "calls", "lent_records", "sheets"] {
+    for kind in ["host", "calls", "lent_records", "sheets", "rehearsals"] {
         assert!(said.contains(&format!("{kind}: not asked")), "{said}");
     }
 }

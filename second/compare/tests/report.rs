@@ -35,8 +35,8 @@ fn all_met() {
 
 #[test]
 fn a_refusal_that_no_kind_meets() {
-    // 9 is never given.
-    for no in (1..=19).filter(|&no| no != 9) {
+    // 9 is never given, and 20 to 24 by no program that is asked.
+    for no in (1..=19).chain(25..=27).filter(|&no| no != 9) {
         let mut outcome = met();
         for tally in &mut outcome.tallies {
             tally.met[no] = 0;
@@ -54,6 +54,7 @@ fn a_refusal_that_one_kind_does_not_meet() {
         ("calls", &true),
         ("lent_records", &false),
         ("sheets", &true),
+        ("rehearsals", &false),
     ] {
         let place = KINDS.iter().position(|known| known.name == kind);
         let place = place.expect("there is such a kind");

@@ -11,10 +11,10 @@ pub struct Bench {
 pub const COMMON: u64 = 720_720;
 
 /// Numbers that look like chance, the same in each run.
-struct Chance(u64);
+pub struct Chance(pub u64);
 
 impl Chance {
-    fn below(&mut self, n: u64) -> u64 {
+    pub fn below(&mut self, n: u64) -> u64 {
         self.0 = self
             .0
             .wrapping_mul(6_364_136_223_846_793_005)
@@ -65,6 +65,15 @@ pub type Call = (char, u64, u64);
 impl Bench {
     pub fn tasks(&self) -> u64 {
         self.table.len() as u64 / 2
+    }
+
+    /// The table's text.
+    pub fn text(&self) -> String {
+        let mut text = format!("{}\n", self.cores);
+        for task in self.table.chunks(2) {
+            text += &format!("{} {}\n", task[0], task[1]);
+        }
+        text
     }
 
     /// The table as a host hands it.

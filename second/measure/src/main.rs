@@ -1,13 +1,18 @@
-//! `measure COMMAND..`: times the product's rounds, which a command makes, against the second program's, in one run.
+//! `measure ROUNDS` times the product's rounds, which a command makes, against the second program's, in one run;
+//! `measure rehearsal FOLDER OURS SECOND` two commands on a day, which it puts into a folder; `measure day` writes that day.
 #![forbid(unsafe_code)]
 
 mod boxes;
+mod day;
 mod ours;
+mod rehearsal;
 mod rounds;
 mod theirs;
 
 use boxes::{full, sized, Bench};
+use rehearsal::{Rehearsal, Words};
 use rounds::Rounds;
+use std::path::Path;
 
 /// How often each figure is taken. All are taken in turn, so that a busy minute of the machine spoils no figure whole, and the least is shown.
 const TIMES: usize = 15;
@@ -52,23 +57,33 @@ impl Figure<'_> {
         ))
     }
 
-    /// A line `name ours second ratio`, with the spread of the ratio.
+    /// The line of its least times, with the spread of the ratio.
     fn show(&self) {
-        let ratios = || {
-            self.times
-                .iter()
-                .map(|[ours, theirs]| self.each(ours) / self.each(theirs))
-        };
-        println!(
-            "{} {:.0} {:.0} {:.2} ({:.2} to {:.2})",
-            self.name,
-            self.least(0),
-            self.least(1),
-            self.least(0) / self.least(1),
-            least_of(ratios()),
-            -least_of(ratios().map(|ratio| -ratio)),
-        );
+        let times = self.times.iter();
+        let ratios = times.map(|[ours, theirs]| self.each(ours) / self.each(theirs));
+        show(&self.name, [0, 1].map(|side| self.least(side)), ratios);
     }
+}
+
+/// A line `name ours second ratio`, with the spread of the ratio.
+fn show(name: &str, [ours, second]: [f64; 2], ratios: impl Iterator<Item = f64> + Clone) {
+    println!(
+        "{name} {ours:.0} {second:.0} {:.2} ({:.2} to {:.2})",
+        ours / second,
+        least_of(ratios.clone()),
+        -least_of(ratios.map(|ratio| -ratio)),
+    );
+}
+
+/// The line of a rehearsal's least times.
+fn show_rehearsal(figure: &Rehearsal) {
+    let times = figure.times.iter();
+    let least = [0, 1].map(|side| least_of(times.clone().map(|both| both[side])));
+    show(
+        figure.name,
+        least,
+        times.map(|[ours, second]| ours / second),
+    );
 }
 
 fn least_of(times: impl Iterator<Item = f64>) -> f64 {
@@ -106,9 +121,8 @@ fn figures<'a>(bench: &'a Bench, word: &str) -> Vec<Figure<'a>> {
     .collect()
 }
 
-fn main() {
-    let command: Vec<String> = std::env::args().skip(1).collect();
-    assert!(!command.is_empty(), "usage: measure COMMAND..");
+/// Times rounds on every box.
+fn measure_rounds(command: &[String]) {
     let sizes = [(8, 16), (16, 16), (32, 16), (64, 2), (64, 4), (64, 8)];
     let mut boxes = vec![(full(), String::new())];
     boxes.extend(sizes.map(|(tasks, cores)| {
@@ -120,8 +134,34 @@ fn main() {
         .flat_map(|(bench, word)| figures(bench, word))
         .collect();
     for _ in 0..TIMES {
-        all.iter_mut().for_each(|figure| figure.take(&command));
+        all.iter_mut().for_each(|figure| figure.take(command));
     }
     println!("name ours_ns second_ns ratio (spread)");
     all.iter().for_each(Figure::show);
+}
+
+/// Times both programs' rehearsals.
+fn measure_rehearsals(folder: &str, programs: [&str; 2]) {
+    let programs = programs.map(words);
+    let mut all = rehearsal::figures(Path::new(folder));
+    for _ in 0..TIMES {
+        all.iter_mut().for_each(|figure| figure.take(&programs));
+    }
+    all.iter().for_each(show_rehearsal);
+}
+
+/// The words of a command, separated by blanks.
+fn words(command: &str) -> Words {
+    command.split_whitespace().map(str::to_string).collect()
+}
+
+fn main() {
+    let given: Vec<String> = std::env::args().skip(1).collect();
+    let given: Vec<&str> = given.iter().map(String::as_str).collect();
+    match given[..] {
+        ["day"] => print!("{}", day::day()),
+        ["rehearsal", folder, ours, second] => measure_rehearsals(folder, [ours, second]),
+        [rounds] => measure_rounds(&words(rounds)),
+        _ => panic!("usage: measure ROUNDS | rehearsal FOLDER OURS SECOND | day"),
+    }
 }

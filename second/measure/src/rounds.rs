@@ -21,10 +21,7 @@ impl Rounds<'_> {
     /// The input of `rounds.c`.
     pub fn input(&self) -> String {
         let mut text = format!("{} {} {}\n", self.kind, self.laps, self.rounds);
-        text += &format!("{}\n", self.bench.cores);
-        for task in self.bench.table.chunks(2) {
-            text += &format!("{} {}\n", task[0], task[1]);
-        }
+        text += &self.bench.text();
         text += "calls\n";
         for (call, number, time) in &self.calls {
             let word = match call {

@@ -20,7 +20,7 @@ pub enum Choice {
 
 /// The classes of runs on a core, most urgent first.
 #[derive(Clone, Copy, PartialEq, Eq, PartialOrd, Ord)]
-enum Class {
+pub(crate) enum Class {
     Upper,
     Lower,
     Fixed,

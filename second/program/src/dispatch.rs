@@ -10,6 +10,11 @@ impl Record {
     /// Takes a new run, held where it comes early, and answers its core and deadline.
     pub fn release(&mut self, task: u64, time: u64) -> Result<(u64, u64), u32> {
         self.check_sound()?;
+        self.release_sound(task, time)
+    }
+
+    /// The same on a record that is known to be sound.
+    pub(crate) fn release_sound(&mut self, task: u64, time: u64) -> Result<(u64, u64), u32> {
         let index = self.task_index(task)?;
         self.check_time(time)?;
         let (task, state) = (&self.tasks[index], &mut self.states[index]);
@@ -33,6 +38,11 @@ impl Record {
     /// Ends the task's oldest run, unless it is held, and answers the time less its deadline.
     pub fn finish(&mut self, task: u64, time: u64) -> Result<i64, u32> {
         self.check_sound()?;
+        self.finish_sound(task, time)
+    }
+
+    /// The same on a record that is known to be sound.
+    pub(crate) fn finish_sound(&mut self, task: u64, time: u64) -> Result<i64, u32> {
         let index = self.task_index(task)?;
         self.check_time(time)?;
         let (task, state) = (&self.tasks[index], &mut self.states[index]);

@@ -21,9 +21,14 @@ impl State {
 }
 
 impl Run {
+    /// The run's release time.
+    pub fn released(&self, task: &Task) -> u64 {
+        // No release gives a deadline below that; such a run is never held.
+        self.deadline.saturating_sub(task.due_after())
+    }
+
     /// Whether the run is held at a time: its release time lies above it.
     pub fn held(&self, task: &Task, time: u64) -> bool {
-        // No release gives a deadline below that; such a run is never held.
-        self.deadline.saturating_sub(task.due_after()) > time
+        self.released(task) > time
     }
 }

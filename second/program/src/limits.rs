@@ -22,3 +22,5 @@ pub const NAME: usize = 12;
 pub const TICK: u64 = 1_000_000;
 /// Most bytes of a player's input.
 pub const CALLS: usize = 65_536;
+/// Most arrivals of a rehearsal.
+pub const ARRIVALS: usize = 4_096;

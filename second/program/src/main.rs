@@ -1,11 +1,11 @@
 //! `second PROGRAM` answers as the product's program of that name: standard input to standard output.
 #![forbid(unsafe_code)]
 
-use second::{office, player, program, sheets};
+use second::{office, player, program, rehearse, sheets};
 use std::io::{self, Read, Write};
 use std::process::ExitCode;
 
-const USAGE: &str = "usage: second plan | calls | sheet | table | office";
+const USAGE: &str = "usage: second plan | calls | sheet | table | office | rehearse";
 
 fn main() -> ExitCode {
     let words: Vec<String> = std::env::args().skip(1).collect();
@@ -16,6 +16,7 @@ fn main() -> ExitCode {
         ["sheet"] => answer(sheets::sheet),
         ["table"] => answer(sheets::table),
         ["office"] => answer(office::office),
+        ["rehearse"] => answer(rehearse::rehearse),
         _ => Err(io::Error::other(USAGE)),
     };
     match done {

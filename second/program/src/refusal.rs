@@ -20,6 +20,9 @@ pub const UNREADABLE: u32 = 16;
 pub const SHEET_LINE: u32 = 17;
 pub const SAME_NAME: u32 = 18;
 pub const TICK_LENGTH: u32 = 19;
+pub const ARRIVAL: u32 = 25;
+pub const RUN_LENGTH: u32 = 26;
+pub const TIME_FALLS: u32 = 27;
 
 /// Planning's refusal: its number and the task it names (from 1), or 0.
 #[derive(Clone, Copy, Debug, PartialEq, Eq)]

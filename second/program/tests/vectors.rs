@@ -1,6 +1,8 @@
 //! Every example input in the folder named by VECTORS gives its right output.
 #![forbid(unsafe_code)]
 
+use second::day::read_day;
+use second::{rehearse, ticking};
 use std::fs;
 use std::path::{Path, PathBuf};
 
@@ -45,4 +47,18 @@ fn sheets() {
     compare("sheet", 100, second::sheets::sheet);
     compare("table", 60, second::sheets::table);
     compare("office", 100, second::office::office);
+}
+
+/// Tick by tick where the day is short, else by the program.
+fn ticked(input: &[u8]) -> Vec<u8> {
+    match read_day(input) {
+        Ok(day) if day.stop < 1_000 => ticking::run(&day),
+        _ => rehearse::rehearse(input),
+    }
+}
+
+#[test]
+fn rehearsals() {
+    compare("rehearse", 120, rehearse::rehearse);
+    compare("rehearse", 120, ticked);
 }

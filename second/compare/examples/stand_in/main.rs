@@ -5,6 +5,7 @@ mod early;
 mod host;
 mod input;
 mod lent_records;
+mod rehearse;
 
 use std::io::{self, Read, Write};
 use std::process::ExitCode;
@@ -22,6 +23,7 @@ fn main() -> ExitCode {
         "sheet" => second::sheets::sheet(&input),
         "table" => second::sheets::table(&input),
         "office" => second::office::office(&input),
+        "rehearse" => rehearse::answer(&input, fault),
         "lent_records" => lent_records::answers(&input, fault),
         _ => return ExitCode::from(2),
     };
