@@ -39,7 +39,7 @@ use Rattle.day.proofs.Kept.{releasedOf, InRow}
 use Rattle.day.proofs.Stands.{Stands, choice-best}
 
 -- a task's period is above 0
-period-some : (pl : Plan) → planSound pl ≡ true → (i : ℕ) → i < pl .count → 0 < lineOf pl i .period .0
+pub period-some : (pl : Plan) → planSound pl ≡ true → (i : ℕ) → i < pl .count → 0 < lineOf pl i .period .0
 period-some pl ok i l =
     let r = in-range (lineOf pl i) (sound-in (pl .common) (lineOf pl i) (task-sound pl ok i l)) in
     omega (arith, r .cost-some, r .cost-fits)

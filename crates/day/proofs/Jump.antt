@@ -1,5 +1,6 @@
 -- A jump ends at the next arrival, the stop, a release time ahead or the first finish of a choice, and is as so many ticks.
 use Prim.Native.Nat.{ℕ, zero, suc, _+_, _-_, _≤_, _<_}
+use mathlib.Core.Logic.{_⊎_, inl, inr}
 use mathlib.Core.Path.{_≡_, refl, sym, _∙_}
 use mathlib.Core.List.{List}
 use native.Mathlib.Omega.{arith}
@@ -12,14 +13,15 @@ use Rattle.fronts.specs.declared.Front.{Front}
 use Rattle.fronts.specs.Front.{noFront, frontOf}
 use Rattle.instants.specs.declared.Seen.{Seen}
 use Rattle.instants.specs.Seen.{idle, seenOf, nextOf, leastLeft}
-use Rattle.instants.proofs.Next.{next-some, next-most}
+use Rattle.instants.proofs.Next.{next-some, next-most, next-first}
 use Rattle.instants.proofs.Least.{least-most, least-each, least-some}
 use Rattle.dispatch.proofs.Records.{task-in}
 use Rattle.day.specs.Desk.{Desk, lineOf, stateOf, workOf, hadOf, boxOf, choiceAt, numberOf, lookedAt, ranOn, ranAt}
+use Rattle.day.proofs.Kept.{releasedOf, InRow}
 use Rattle.day.proofs.Stands.{Stands, Resting, choice-waits}
 use Rattle.day.proofs.At.{Fine, cores-wide}
 use Rattle.day.proofs.Skip.{Quiet, seen, before-finishes}
-use Rattle.day.proofs.Instant.{seen-choice, seen-run, seen-left, choice-still}
+use Rattle.day.proofs.Instant.{period-some, seen-choice, seen-run, seen-left, choice-still}
 
 module _ (pl : Plan) (xs : List ℕ) (f : Fine pl xs) (t v : ℕ) (ahead : t < v) (upto : v ≤ clockLimit)
     (coming : (j : ℕ) → j < arrivalsIn xs → t < arrivalTime xs j → v ≤ arrivalTime xs j) (fs : List Front) where
@@ -73,6 +75,26 @@ module _ (pl : Plan) (xs : List ℕ) (f : Fine pl xs) (t v : ℕ) (ahead : t < v
     jump-most =
         omega (arith, least-most sights (nextAt - t) (pl .cores), next-most fs t v (pl .count), next-some fs t v (pl .count) ahead)
 
+    -- no arrival that lies ahead, nor the stop
+    pub jump-arrivals : (j : ℕ) → j < arrivalsIn xs → t < arrivalTime xs j → t + jump ≤ arrivalTime xs j
+    jump-arrivals j l h = omega (arith, jump-most, coming j l h)
+
+    -- no stored run's release time that lies ahead, whichever of its task's runs it is
+    pub jump-releases : (i k : ℕ) → i < pl .count → k < stateOf d i .live → t < releasedOf (lineOf pl i) (stateOf d i) k
+        → t + jump ≤ releasedOf (lineOf pl i) (stateOf d i) k
+    unfolding frontOf
+    jump-releases i k l live h = go (s .each i l .row k live)
+      where
+        x : ℕ
+        x = releasedOf (lineOf pl i) (stateOf d i) k
+
+        go : (x ≤ t) ⊎ InRow (lineOf pl i) (stateOf d i) x → t + jump ≤ x
+        go (inl e) = absurd (omega (arith, e, h))
+        go (inr (q, e)) =
+            let some = period-some pl (f .sound) i l in
+            let n = next-first fs t v (pl .count) i x q l h (rw (front i l) e) (rw (front i l) some) in
+            omega (arith, n, least-most sights (nextAt - t) (pl .cores), next-some fs t v (pl .count) ahead)
+
     quiet : Quiet pl xs t jump
     quiet = record {
       none = λ u j a b l e. omega (arith, coming j l (omega (arith, a, e)), e, b, jump-most);
@@ -98,6 +120,10 @@ module _ (pl : Plan) (xs : List ℕ) (f : Fine pl xs) (t v : ℕ) (ahead : t < v
             go : (c : ℕ) → choiceAt pl t d p ≡ c → c ≤ length (d .had)
             go zero e = omega arith
             go (suc j) e = omega (arith, task-in (boxOf pl t d) (s .good) j (choice-waits pl t d p j (s .good) e .0), s .had)
+
+    -- no finish of a choice
+    pub jump-finishes : (p : ℕ) → p < pl .cores → 0 < choiceAt pl t d p → hadOf d (choiceAt pl t d p - 1) + jump ≤ lengthAt (workOf d (choiceAt pl t d p - 1)) 0
+    jump-finishes = quiet .lasts
 
     -- the desk there, before its finishes
     pub jumped : ranAt pl xs (t + jump) ≡ ranOn jump (pl .cores) (lookedAt pl t (pl .cores) d)

@@ -63,17 +63,6 @@ pub record Ending (pl : Plan) (t n : ℕ) (d : Desk) : Type 0 where
   pub rested : (i : ℕ) → i < pl .count → ((p : ℕ) → n ≤ p → p < pl .cores → runOf d p .task ≡ suc i → ⊥) → Rested (stateOf d i) (workOf d i) (hadOf d i) t
   pub busy : (p i : ℕ) → n ≤ p → p < pl .cores → runOf d p .task ≡ suc i → Busy pl t d p i
 
--- as time goes on
-pub later-stands : (pl : Plan) (t u : ℕ) (d : Desk) → t ≤ u → u ≤ clockLimit → Stands pl t d → Stands pl u d
-later-stands pl t u d l h s = record {
-  good = timed-good (boxOf pl t d) (s .good) u h;
-  works = s .works;
-  had = s .had;
-  going = s .going;
-  each = λ i k. later-kept (lineOf pl i) (stateOf d i) (workOf d i) t (s .each i k) u l;
-  nobody = s .nobody;
-}
-
 back : (i : ℕ) → suc i - 1 ≡ i
 back i = omega arith
 

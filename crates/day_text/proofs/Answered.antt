@@ -82,13 +82,6 @@ module _ (s : List ℕ) {r : DayReading} (e : r ≡ dayAnswer (dayOf s)) where
     pub numbers-few : k ≤ 12288
     numbers-few = let f = known .few in omega (arith, known .numbers, f .most, f .three)
 
-    -- its stop is below 10^15, and so is each number of its arrivals
-    pub stop-is-small : stop < dayBound
-    stop-is-small = known .small
-
-    pub arrivals-are-few : Few linesLimit (arrivalsSaid (dayOf s))
-    arrivals-are-few = known .few
-
     -- and they stand at the start of the lent lists
     pub is-read : (before lent : List ℕ) {table arrivals : List ℕ} → 2048 ≤ length before → 12288 ≤ length lent
         → table ≡ sets before 0 (tableSaid (tableIn s)) → arrivals ≡ sets lent 0 (arrivalsSaid (dayOf s))

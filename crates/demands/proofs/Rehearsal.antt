@@ -3,10 +3,10 @@
 use Prim.Native.Nat.{ℕ, suc, _+_, _-_, _*_, _≤_, _<_}
 use mathlib.Core.Path.{_≡_, refl, sym, ap, subst, _∙_}
 use mathlib.Core.Logic.{_↔_, _⊎_}
-use mathlib.Core.Bool.{Bool, true, false}
+use mathlib.Core.Bool.{Bool, true, false, cond}
 use mathlib.Core.List.{List, [], _∷_, _++_}
 use native.Mathlib.Omega.{arith}
-use lib.Dec.{ltb, leb}
+use lib.Dec.{ltb, leb, eqb}
 use lib.IntN.{ℤ, pos, negsuc}
 use lib.ListN.{length, getD, take}
 use borrow.Author.Tests.{ne-eqb}
@@ -26,6 +26,7 @@ use Rattle.soundness.specs.Plan.{planSound}
 use Rattle.core_choice.specs.Told.{choiceTask}
 use Rattle.dispatch.specs.declared.call.Call.the-variants.{Release, Finish, Look}
 use Rattle.dispatch.specs.Record.{recordOf}
+use Rattle.dispatch.specs.Finish.{finishOf}
 use Rattle.dispatch.specs.Look.{lookOf}
 use Rattle.dispatch.specs.Calls.{callRefusal, step}
 use Rattle.dispatch.specs.Given.{_if_else_, none, Out}
@@ -159,6 +160,18 @@ module _ (xs : List ℕ) (t : ℕ) (d : Day) where
   pub done-finishes : (p : ℕ) → finished t p d .box ≡ step (d .box) (Finish (goingAt d p .task) (ticks t))
   unfolding finished
   done-finishes p = refl
+
+  -- what is said of them: an arrival that is refused, with the number, and nothing of one that is taken
+  pub arrival-says : (k : ℕ) → let n = callRefusal (d .box) (Release (arrivalTask xs k) (ticks t)) in
+      taken xs t k d .said ≡ d .said ++ cond (eqb n 0) [] (Refused n (suc k) (arrivalTask xs k) (ticks t) ∷ [])
+  unfolding taken
+  arrival-says k = rw (Beneath.release-called (d .box) (arrivalTask xs k) t) refl
+
+  -- and each finish, with the lateness that it answers
+  pub done-says : (p : ℕ) → let g = goingAt d p in
+      finished t p d .said ≡ d .said ++ (Finished (ran p (g .task) (g .run)) (ticks t) (finishOf (d .box) (g .task) t .late) ∷ [])
+  unfolding finished
+  done-says p = refl
 
 -- any sound plan, planned or not, arrivals of which none is refused, and any stop within the clock's limit
 module _ (pl : Plan) (shaped : PlanShaped pl) (sound : planSound pl ≡ true) (xs : List ℕ) (passed : arrivalsRefusal pl xs (arrivalsIn xs) ≡ refusal 0 0)
