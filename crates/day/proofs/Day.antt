@@ -24,9 +24,10 @@ use Rattle.dispatch.proofs.Keeps.{release-good, finish-good, look-good}
 use Rattle.dispatch.proofs.Always.{step-plan, refused-same, accepted-clock}
 use Rattle.dispatch.proofs.Fresh.{fresh-good}
 use Rattle.arrivals.specs.Arrivals.{arrivalsIn, arrivalTime, arrivalTask}
-use Rattle.day.specs.Day.{Day, goingAt, taken, arrivals, lookAt, looks, runOn, runsOn, done, finished, finish, finishes, tick, startDay, dayAt}
+use Rattle.day_rules.specs.Day.{Day, goingAt, taken, arrivals, lookAt, looks, runOn, runsOn, done, finished, finish, finishes, tick, startDay, dayAt}
 use Rattle.run_lengths.specs.Work.{lengthAt}
-use Rattle.day.specs.Desk.{Desk, deskOf, lineOf, stateOf, workOf, hadOf, runOf, takes, arrivedBy, looksAt, lookedAt, ranBy, ranOn, doneOf, endsOn, ends, endedBy, freshDesk, deskAt}
+use Rattle.goings.specs.Going.{ranBy}
+use Rattle.day.specs.Desk.{Desk, deskOf, lineOf, stateOf, workOf, hadOf, runOf, takes, arrivedBy, looksAt, lookedAt, ranOn, doneOf, endsOn, ends, endedBy, freshDesk, deskAt}
 use Rattle.day.proofs.Same.{same-take, same-look, same-end}
 use Rattle.day.proofs.Kept.{releasedOf}
 use Rattle.day.proofs.Stands.{Busy, Ending, ending-start}

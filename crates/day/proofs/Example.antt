@@ -12,7 +12,7 @@ use Rattle.release_order.proofs.Example.{defs}
 use Rattle.run_lengths.specs.Work.{freshWork, withLength, withoutLength}
 use Rattle.day_lines.specs.declared.Event.the-variants.{Finished, Refused, Spanned, Stopped, Unfinished}
 use Rattle.day_lines.specs.Lines.{finishText, refusedText, spanText, stopText, unfinishedText, eventText}
-use Rattle.day.specs.Day.{startDay, ran, taken, lookAt, runOn, finished, dayAt, eventsOf, dayText}
+use Rattle.day_rules.specs.Day.{startDay, ran, taken, lookAt, runOn, finished, dayAt, eventsOf, dayText}
 
 -- three tasks of cost 2 and period 3 on two cores
 abbrev thrice : Plan

@@ -16,11 +16,11 @@ use Rattle.instants.specs.Seen.{idle, seenOf, nextOf, leastLeft}
 use Rattle.instants.proofs.Next.{next-some, next-most, next-first}
 use Rattle.instants.proofs.Least.{least-most, least-each, least-some}
 use Rattle.dispatch.proofs.Records.{task-in}
-use Rattle.day.specs.Desk.{Desk, lineOf, stateOf, workOf, hadOf, boxOf, choiceAt, numberOf, lookedAt, ranOn, ranAt}
+use Rattle.day.specs.Desk.{Desk, lineOf, stateOf, workOf, hadOf, boxOf, choiceAt, numberOf, lookedAt, ranOn, deskAt, ranAt}
 use Rattle.day.proofs.Kept.{releasedOf, InRow}
 use Rattle.day.proofs.Stands.{Stands, Resting, choice-waits}
 use Rattle.day.proofs.At.{Fine, cores-wide}
-use Rattle.day.proofs.Skip.{Quiet, seen, before-finishes}
+use Rattle.day.proofs.Skip.{Quiet, seen, before-finishes, skip-all}
 use Rattle.day.proofs.Instant.{period-some, seen-choice, seen-run, seen-left, choice-still}
 
 module _ (pl : Plan) (xs : List ℕ) (f : Fine pl xs) (t v : ℕ) (ahead : t < v) (upto : v ≤ clockLimit)
@@ -128,3 +128,10 @@ module _ (pl : Plan) (xs : List ℕ) (f : Fine pl xs) (t v : ℕ) (ahead : t < v
     -- the desk there, before its finishes
     pub jumped : ranAt pl xs (t + jump) ≡ ranOn jump (pl .cores) (lookedAt pl t (pl .cores) d)
     jumped = before-finishes pl xs t jump quiet jump-some
+
+    -- and after them, where each choice has more left
+    pub jumped-all : ((p : ℕ) → p < pl .cores → 0 < getD sights p idle .task → jump < getD sights p idle .left)
+        → deskAt pl xs (t + jump) ≡ ranOn jump (pl .cores) (lookedAt pl t (pl .cores) d)
+    jumped-all more =
+        skip-all pl xs t jump quiet jump-some
+        (λ p l some. omega (arith, more p l (omega (arith, some, task-is p l)), left-is p l some, left-some p l some))

@@ -10,8 +10,8 @@ use lib.Seq.{getD-set-same, getD-set-other, set-getD}
 use borrow.Author.Tests.{eqb-true, eq-eqb}
 use Rattle.lists.proofs.Tests.{by-cases, and-left, and-right, and-true}
 use Rattle.planning.specs.declared.Plan.{Plan}
-use Rattle.instants.specs.declared.Going.{Going}
-use Rattle.instants.specs.Going.{noGoing, same, goingOf}
+use Rattle.goings.specs.declared.Going.{Going}
+use Rattle.goings.specs.Going.{noGoing, same, goingOf}
 use Rattle.day_lines.specs.declared.Event.{Event}
 use Rattle.day.specs.Desk.{Desk, runOf, choiceAt, numberOf, looksAt, lookedAt}
 

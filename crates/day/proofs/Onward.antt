@@ -1,39 +1,23 @@
--- What a jump stores: the runs that have the cores, the ticks had, and the spans that end.
-use Prim.Native.Nat.{ℕ, zero, suc, _+_, _-_, _≤_, _<_}
-use mathlib.Core.Path.{_≡_, refl, sym, _∙_}
-use mathlib.Core.Bool.{true, false, cond}
+-- What a jump stores: the runs that have the cores, and the spans that end.
+use Prim.Native.Nat.{ℕ, zero, suc, _≤_, _<_}
+use mathlib.Core.Path.{_≡_, sym, _∙_}
+use mathlib.Core.Bool.{true, false}
 use mathlib.Core.List.{List, _++_, append-nil, append-assoc}
 use native.Mathlib.Omega.{arith}
-use lib.Dec.{ltb, eqb}
-use lib.ListN.{length, getD, set}
+use lib.Dec.{ltb}
+use lib.ListN.{length, getD}
 use lib.Seq.{ext-getD}
-use borrow.Author.Tests.{eqb-true, eqb-false, ltb-true, ltb-false, lt-ltb, le-ltb}
+use borrow.Author.Tests.{ltb-true, ltb-false}
 use Rattle.lists.proofs.Tests.{by-cases}
 use Rattle.planning.specs.declared.Plan.{Plan}
 use Rattle.instants.specs.declared.Seen.{Seen}
-use Rattle.instants.specs.declared.Going.{Going}
-use Rattle.instants.specs.Seen.{idle, ranBy as ranOf}
-use Rattle.instants.specs.Going.{noGoing, goingsOf}
+use Rattle.goings.specs.declared.Going.{Going}
+use Rattle.instants.specs.Seen.{idle}
+use Rattle.goings.specs.Going.{noGoing}
+use Rattle.instants.specs.Goings.{goingsOf}
 use Rattle.instants.proofs.GoingsAt.{goings-long, goings-past, goings-at}
-use Rattle.day.specs.Desk.{Desk, runOf, choiceAt, numberOf, looksAt, lookedAt, spansEnd, ranBy}
+use Rattle.day.specs.Desk.{Desk, runOf, choiceAt, numberOf, looksAt, lookedAt, spansEnd}
 use Rattle.day.proofs.Looked.{choice-by, number-by, looked-states, looked-works, looked-long, looked-at, looked-past}
-
--- the ticks had by the choices are those had by the runs that have the cores
-pub ran-same : (ss : List Seen) (gs : List Going) (m : ℕ) (hs : List ℕ) (n : ℕ) → ((k : ℕ) → k < n → getD ss k idle .task ≡ getD gs k noGoing .task)
-    → ranOf ss m hs n ≡ ranBy gs m hs n
-unfolding ranOf ranBy
-ran-same ss gs m hs zero h = refl
-ran-same ss gs m hs (suc n) h =
-    rw (h n (omega arith), ran-same ss gs m hs n (λ k l. h k (omega (arith, l)))) (go (getD gs n noGoing .task))
-  where
-    rs : List ℕ
-    rs = ranBy gs m hs n
-
-    go : (i : ℕ) → cond (ltb 0 i) (set rs (i - 1) (getD rs (i - 1) 0 + m)) rs ≡ cond (eqb i 0) rs (set rs (i - 1) (getD rs (i - 1) 0 + m))
-    go i =
-        by-cases (eqb i 0)
-        (λ e. let z = eqb-true i 0 e in rw (e, le-ltb 0 i (omega (arith, z))) refl)
-        (λ e. let z = eqb-false i 0 e in rw (e, lt-ltb 0 i (omega (arith, z))) refl)
 
 module _ (pl : Plan) (t : ℕ) (d : Desk) (ss : List Seen) (n : ℕ) (wide : n ≤ length (d .going))
     (task : (p : ℕ) → p < n → getD ss p idle .task ≡ choiceAt pl t d p)

@@ -7,14 +7,14 @@ use native.Mathlib.Decide.{ℕ-discrete}
 use native.Mathlib.Omega.{arith}
 use native.Mathlib.Nat.{mul-add, add-mul}
 use lib.Dec.{eqb}
-use lib.ListN.{length, getD, set, length-set}
+use lib.ListN.{length, getD, set}
 use lib.Seq.{getD-set-same, getD-set-other, ext-getD}
 use borrow.Author.Tests.{eqb-true, eqb-false, eq-eqb, ne-eqb}
 use Rattle.lists.specs.Lists.{bit}
 use Rattle.lists.proofs.Tests.{by-cases}
-use Rattle.instants.specs.declared.Going.{Going}
-use Rattle.instants.specs.Going.{noGoing}
-use Rattle.day.specs.Desk.{ranBy}
+use Rattle.goings.specs.declared.Going.{Going}
+use Rattle.goings.specs.Going.{noGoing, ranBy}
+use Rattle.goings.proofs.Ran.{ran-long}
 
 module _ (gs : List Going) where
   -- how many of the first n cores have a run of task i, from 0
@@ -23,14 +23,6 @@ module _ (gs : List Going) where
   having i (suc n) = having i n + bit (eqb (getD gs n noGoing .task) (suc i))
 
   module _ (m : ℕ) (hs : List ℕ) where
-    pub ran-long : (n : ℕ) → length (ranBy gs m hs n) ≡ length hs
-    unfolding ranBy
-    ran-long zero = refl
-    ran-long (suc n) =
-        by-cases (eqb (getD gs n noGoing .task) 0)
-        (λ e. rw e (ran-long n))
-        (λ e. rw e (length-set (ranBy gs m hs n) _ _ ∙ ran-long n))
-
     -- m more for each of them
     pub ran-is : (n i : ℕ) → i < length hs → getD (ranBy gs m hs n) i 0 ≡ getD hs i 0 + m * having i n
     unfolding ranBy
@@ -55,7 +47,7 @@ module _ (gs : List Going) where
             some j r z (yes e) =
                 let o = eqb-false j 0 z in
                 rw (z, eq-eqb j (suc i) (omega (arith, e, o)), ← e)
-                (getD-set-same rs i (getD rs i 0 + m) 0 (omega (arith, h, ran-long n)) ∙ omega (arith, r, mul-add m (having i n) 1))
+                (getD-set-same rs i (getD rs i 0 + m) 0 (omega (arith, h, ran-long gs m hs n)) ∙ omega (arith, r, mul-add m (having i n) 1))
             some j r z (no e) =
                 let o = eqb-false j 0 z in
                 rw (z, ne-eqb j (suc i) (λ q. e (omega (arith, q))))

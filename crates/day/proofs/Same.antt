@@ -18,7 +18,7 @@ use Rattle.dispatch.specs.Shape.{Good}
 use Rattle.dispatch.proofs.Called.{task-call}
 use Rattle.dispatch.proofs.Answers.{release-taken, release-refused, finish-taken, look-taken}
 use Rattle.arrivals.specs.Arrivals.{arrivalTask}
-use Rattle.day.specs.Day.{Day, goingAt, taken, lookAt, finished}
+use Rattle.day_rules.specs.Day.{Day, goingAt, taken, lookAt, finished}
 use Rattle.day.specs.Desk.{deskOf, arrivalNo, takes, choiceAt, looksAt, endsOn}
 
 -- a call of a sound record, for a number from 1 to n, at a time from its clock to its limit, passes what every call tests

@@ -100,9 +100,10 @@ module _ (pl : Plan) (xs : List ℕ) (t m : ℕ) where
           looked-had pl t seen (pl .cores),
         ) (omega arith)
 
-    -- so none is done before m
-    not-done : (k p : ℕ) → k < m → p < pl .cores → doneOf (later k) (runOf (later k) p .task) ≡ false
-    not-done k p h l = rw (has-task k p l) (by-cases (doneOf (later k) (chosen p)) (λ e. absurd (no e)) (λ e. e))
+    -- so none is done where each needs more
+    not-done : (k p : ℕ) → p < pl .cores → (0 < chosen p → hadOf seen (chosen p - 1) + k < lengthAt (workOf seen (chosen p - 1)) 0)
+        → doneOf (later k) (runOf (later k) p .task) ≡ false
+    not-done k p l h = rw (has-task k p l) (by-cases (doneOf (later k) (chosen p)) (λ e. absurd (no e)) (λ e. e))
       where
         no : doneOf (later k) (chosen p) ≡ true → ⊥
         no e =
@@ -113,7 +114,7 @@ module _ (pl : Plan) (xs : List ℕ) (t m : ℕ) where
             let all = eqb-true (hadOf (later k) i) (lengthAt (workOf (later k) i) 0) (and-right a b e) in
             let more = had-more k p i l (omega (arith, some)) in
             let long : lengthAt (workOf (later k) i) 0 ≡ lengthAt (workOf seen i) 0 = rw (same-works k) refl in
-            omega (arith, some, all, more, long, quiet .lasts p l some, h)
+            omega (arith, all, more, long, h some)
 
     -- before the run of tick t + k
     before-run : (k : ℕ) → k < m → lookedAt pl (t + k) (pl .cores) (arrivedBy pl xs (t + k) (arrivalsIn xs) (deskAt pl xs (t + k))) ≡ later k
@@ -128,7 +129,7 @@ module _ (pl : Plan) (xs : List ℕ) (t m : ℕ) where
           before-run k g,
           desk-more k 1 (pl .cores) there,
           f,
-          ended-none (t + k + 1) (pl .cores) (later (suc k)) (λ p l. not-done (suc k) p h l),
+          ended-none (t + k + 1) (pl .cores) (later (suc k)) (λ p l. not-done (suc k) p l (λ some. omega (arith, quiet .lasts p l some, h))),
           arrived-none pl xs (suc (t + k)) (arrivalsIn xs) (later (suc k)) (λ j l z. quiet .none (suc (t + k)) j (omega arith) (omega (arith, h)) l z),
           ← e,
         )
@@ -152,3 +153,8 @@ module _ (pl : Plan) (xs : List ℕ) (t m : ℕ) where
         let f : k + 1 ≡ m = omega (arith, some) in
         let g : t + k + 1 ≡ t + m = omega (arith, some) in
         rw (e, before-run k (omega (arith, some)), desk-more k 1 (pl .cores) there, f, g) (rw (← e) refl)
+
+    -- and where none is done then, no finish follows
+    pub skip-all : 0 < m → ((p : ℕ) → p < pl .cores → 0 < chosen p → hadOf seen (chosen p - 1) + m < lengthAt (workOf seen (chosen p - 1)) 0)
+        → deskAt pl xs (t + m) ≡ ranOn m (pl .cores) there
+    skip-all some less = skip some ∙ ended-none (t + m) (pl .cores) (later m) (λ p l. not-done m p l (less p l))

@@ -25,9 +25,11 @@ use Rattle.dispatch.proofs.Search.{Found, found}
 use Rattle.dispatch.proofs.Records.{task-in, task-shaped, task-sound, moved-good, timed-good}
 use Rattle.run_lengths.specs.declared.Work.{Work}
 use Rattle.run_lengths.specs.Work.{noWork, lengthAt, withoutLength}
-use Rattle.day.specs.Desk.{Desk, lineOf, stateOf, workOf, hadOf, runOf, boxOf, choiceAt, numberOf, lookedAt, ranBy, ranOn, endsOn, ends}
+use Rattle.goings.specs.Going.{ranBy}
+use Rattle.goings.proofs.Ran.{ran-long}
+use Rattle.day.specs.Desk.{Desk, lineOf, stateOf, workOf, hadOf, runOf, boxOf, choiceAt, numberOf, lookedAt, ranOn, endsOn, ends}
 use Rattle.day.proofs.Looked.{goes-task, looked-states, looked-works, looked-had, looked-long, looked-at}
-use Rattle.day.proofs.Ran.{having, having-none, having-one, ran-is, ran-long}
+use Rattle.day.proofs.Ran.{having, having-none, having-one, ran-is}
 use Rattle.day.proofs.Kept.{Kept, releasedOf, later-kept, without-kept, length-up}
 
 -- a task's oldest unfinished run has had less than its length

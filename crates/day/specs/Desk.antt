@@ -23,11 +23,11 @@ use Rattle.dispatch.specs.Look.{choiceOf}
 use Rattle.arrivals.specs.Arrivals.{arrivalsIn, arrivalTime, arrivalTask, arrivalLength}
 use Rattle.run_lengths.specs.declared.Work.{Work}
 use Rattle.run_lengths.specs.Work.{freshWork, noWork, lengthAt, withLength, withoutLength}
-use Rattle.instants.specs.declared.Going.{Going}
-use Rattle.instants.specs.Going.{noGoing, goingOf}
+use Rattle.goings.specs.declared.Going.{Going}
+use Rattle.goings.specs.Going.{noGoing, goingOf, ranBy}
 use Rattle.day_lines.specs.declared.Event.{Event}
 use Rattle.day_lines.specs.declared.Event.the-variants.{Finished, Refused}
-use Rattle.day.specs.Day.{Day, ran, spanEnd}
+use Rattle.day_rules.specs.Day.{Day, ran, spanEnd}
 
 -- the tasks' states and their runs' lengths, the ticks had, the runs that have the cores, what was said
 pub record Desk : Type 0 where
@@ -133,14 +133,7 @@ abbrev pub lookedAt : Plan → ℕ → ℕ → Desk → Desk
 lookedAt pl t zero d = d
 lookedAt pl t (suc n) d = looksAt pl t n (lookedAt pl t n d)
 
--- the ticks had, after m more for the run that has each of the first n cores
-unfoldable pub ranBy : List Going → ℕ → List ℕ → ℕ → List ℕ
-ranBy gs m hs zero = hs
-ranBy gs m hs (suc n) =
-    let i = getD gs n noGoing .task in
-    cond (eqb i 0) (ranBy gs m hs n) (set (ranBy gs m hs n) (i - 1) (getD (ranBy gs m hs n) (i - 1) 0 + m))
-
--- so of a desk
+-- the runs that have the first n cores have had m ticks more
 unfoldable pub ranOn : ℕ → ℕ → Desk → Desk
 ranOn m n d = record { states = d .states; works = d .works; had = ranBy (d .going) m (d .had) n; going = d .going; said = d .said }
 

@@ -1,1 +1,1 @@
-// A rehearsal, tick by tick: definitions and laws alone.
+// The plain model of a rehearsal's day: definitions and laws alone.

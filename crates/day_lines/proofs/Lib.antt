@@ -1,4 +1,3 @@
-pub mod Windows
 pub mod Texts
 pub mod Events
 pub mod Settled

@@ -11,8 +11,6 @@ ghost use Rattle.writing.specs.Inner.{placeLimit};
 ghost use Rattle.writing.specs.Wrote.{Wrote};
 ghost use Rattle.day_lines.specs.Lines.{ranAfter, finishText, refusedText, spanText, stopText, leftText, unfinishedText, eventText};
 
-pub mod within;
-
 // A run on a core: its task's number and its own, each from 1.
 pub struct Ran {
     pub core: usize,

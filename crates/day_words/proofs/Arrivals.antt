@@ -16,7 +16,7 @@ use Rattle.units.specs.Limits.{clockLimit}
 use Rattle.planning.specs.declared.Plan.{Plan}
 use Rattle.arrivals.specs.Arrivals.{arrivalsIn, arrivalTime, arrivalTask}
 use Rattle.day_lines.specs.declared.Event.{Event}
-use Rattle.day.specs.Day.{eventsOf}
+use Rattle.day_rules.specs.Day.{eventsOf}
 use Rattle.day.proofs.At.{Fine}
 use Rattle.day_words.specs.Words.{counted, accepted, takenIn, takenBefore, saysRefused, saysFinished, saysUnfinished, acceptedBefore, runNumber, Rising}
 use Rattle.day_words.proofs.Finishes.{taken-length, taken-same}

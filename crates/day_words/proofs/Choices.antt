@@ -9,9 +9,9 @@ use Rattle.core_choice.specs.Told.{choiceTask}
 use Rattle.dispatch.specs.Look.{lookOf}
 use Rattle.dispatch.proofs.Answers.{look-taken}
 use Rattle.arrivals.specs.Arrivals.{arrivalsIn}
-use Rattle.instants.specs.declared.Going.{Going}
-use Rattle.instants.specs.Going.{goingOf}
-use Rattle.day.specs.Day.{Day, oldestOf}
+use Rattle.goings.specs.declared.Going.{Going}
+use Rattle.goings.specs.Going.{goingOf}
+use Rattle.day_rules.specs.Day.{Day, oldestOf}
 use Rattle.day.specs.Desk.{Desk, runOf, choiceAt, numberOf}
 use Rattle.day.proofs.Looked.{goes-task, goes-run, choice-by, number-by, looked-states, looked-works, looked-at}
 use Rattle.day.proofs.At.{Fine, cores-wide}

@@ -20,7 +20,7 @@ use Rattle.run_lengths.specs.declared.Work.{Work}
 use Rattle.run_lengths.specs.Work.{freshWork, noWork, withLength, withoutLength}
 use Rattle.day_lines.specs.declared.Event.{Event}
 use Rattle.day_lines.specs.declared.Event.the-variants.{Refused, Stopped}
-use Rattle.day.specs.Day.{Day, workAt, dayAt, closes, leftOf, unfinished, eventsOf}
+use Rattle.day_rules.specs.Day.{Day, workAt, dayAt, closes, leftOf, unfinished, eventsOf}
 use Rattle.day.specs.Desk.{Desk, stateOf, workOf, runOf, boxOf, arrivalNo, takes, arrives, ranOn, doneOf, endsOn, ends, freshDesk, deskAt}
 use Rattle.day.proofs.At.{Fine, stands-at}
 use Rattle.day.proofs.Day.{is-at}

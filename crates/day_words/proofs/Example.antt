@@ -14,7 +14,7 @@ use Rattle.soundness.proofs.PlannedShape.{started-plan}
 use Rattle.arrivals.specs.Arrivals.{arrivalTask, arrivalLength}
 use Rattle.run_lengths.specs.Work.{freshWork, withLength, withoutLength}
 use Rattle.day_lines.specs.declared.Event.the-variants.{Finished}
-use Rattle.day.specs.Day.{startDay, ran, taken, lookAt, runOn, finished, dayAt, eventsOf}
+use Rattle.day_rules.specs.Day.{startDay, ran, taken, lookAt, runOn, finished, dayAt, eventsOf}
 use Rattle.day.proofs.At.{Fine}
 use Rattle.day.proofs.Example.{three-jobs}
 use Rattle.release_order.proofs.Example.{defs}

@@ -15,10 +15,10 @@ use Rattle.units.specs.Units.{ticks}
 use Rattle.planning.specs.declared.Plan.{Plan}
 use Rattle.arrivals.specs.Arrivals.{arrivalsIn, arrivalLength}
 use Rattle.run_lengths.specs.Work.{lengthAt}
-use Rattle.instants.specs.Going.{same}
+use Rattle.goings.specs.Going.{same}
 use Rattle.day_lines.specs.declared.Event.{Event}
 use Rattle.day_lines.specs.declared.Event.the-variants.{Finished, Refused, Spanned, Stopped, Unfinished}
-use Rattle.day.specs.Day.{ran, eventsOf}
+use Rattle.day_rules.specs.Day.{ran, eventsOf}
 use Rattle.day.specs.Desk.{Desk, stateOf, workOf, hadOf, runOf, doneOf, deskAt, freshDesk}
 use Rattle.day.proofs.At.{Fine}
 use Rattle.day_words.specs.Words.{Among, hasIn, ticksOf, takenIn, takenBefore, lengthOf, FirstHad}

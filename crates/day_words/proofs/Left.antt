@@ -18,7 +18,7 @@ use Rattle.arrivals.specs.Arrivals.{arrivalLength}
 use Rattle.run_lengths.specs.Work.{lengthAt, numberAt}
 use Rattle.day_lines.specs.declared.Event.{Event}
 use Rattle.day_lines.specs.declared.Event.the-variants.{Finished, Refused, Spanned, Stopped, Unfinished}
-use Rattle.day.specs.Day.{Day, workAt, hadAt, ran, dayAt, closes, leftOf, unfinished, eventsOf}
+use Rattle.day_rules.specs.Day.{Day, workAt, hadAt, ran, dayAt, closes, leftOf, unfinished, eventsOf}
 use Rattle.day.specs.Desk.{lineOf, deskAt, freshDesk}
 use Rattle.day.proofs.Kept.{Kept}
 use Rattle.day.proofs.Stands.{Rested}

@@ -6,7 +6,7 @@ use native.Mathlib.Omega.{arith}
 use Rattle.units.specs.Limits.{clockLimit}
 use Rattle.planning.specs.declared.Plan.{Plan}
 use Rattle.arrivals.specs.Arrivals.{arrivalsIn}
-use Rattle.day.specs.Day.{dayAt, runsOn}
+use Rattle.day_rules.specs.Day.{dayAt, runsOn}
 use Rattle.day.specs.Desk.{Desk, runOf, arrivedBy, lookedAt, ranOn, endedBy, deskAt}
 use Rattle.day.proofs.Stands.{Stands, Resting, Ending, ending-start}
 use Rattle.day.proofs.At.{Fine, ending-all, arrived-stands, lasts-one, cores-wide, stands-at}

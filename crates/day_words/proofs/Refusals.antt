@@ -23,7 +23,7 @@ use Rattle.arrivals.specs.Arrivals.{arrivalsIn, arrivalTime, arrivalTask}
 use Rattle.run_lengths.specs.Work.{lengthAt}
 use Rattle.day_lines.specs.declared.Event.{Event}
 use Rattle.day_lines.specs.declared.Event.the-variants.{Finished, Refused, Spanned, Stopped, Unfinished}
-use Rattle.day.specs.Day.{Day, goingAt, hadAt, workAt, done, eventsOf}
+use Rattle.day_rules.specs.Day.{Day, goingAt, hadAt, workAt, done, eventsOf}
 use Rattle.day.specs.Desk.{Desk, lineOf, stateOf, runOf, arrivalNo, deskAt, freshDesk}
 use Rattle.day.proofs.Kept.{releasedOf}
 use Rattle.day.proofs.Stands.{Busy, Ending}

@@ -16,12 +16,12 @@ use Rattle.units.specs.declared.ticks.Ticks.{Ticks}
 use Rattle.planning.specs.declared.Plan.{Plan}
 use Rattle.dispatch.specs.Record.{stateAt}
 use Rattle.arrivals.specs.Arrivals.{arrivalsIn, arrivalTime, arrivalTask}
-use Rattle.instants.specs.declared.Going.{Going}
-use Rattle.instants.specs.Going.{noGoing, same}
+use Rattle.goings.specs.declared.Going.{Going}
+use Rattle.goings.specs.Going.{noGoing, same}
 use Rattle.day_lines.specs.declared.Ran.{Ran}
 use Rattle.day_lines.specs.declared.Event.{Event}
 use Rattle.day_lines.specs.declared.Event.the-variants.{Finished, Refused, Spanned, Stopped, Unfinished}
-use Rattle.day.specs.Day.{Day, goingAt, ran, spanEnd, dayAt, closes, leftOf, unfinished, eventsOf}
+use Rattle.day_rules.specs.Day.{Day, goingAt, ran, spanEnd, dayAt, closes, leftOf, unfinished, eventsOf}
 use Rattle.day.specs.Desk.{Desk, runOf, arrivalNo, takes, arrivedBy, choiceAt, numberOf, looksAt, lookedAt, ranOn, doneOf, endsOn, endedBy, deskAt}
 use Rattle.day.proofs.Looked.{looked-past}
 use Rattle.day_words.specs.Words.{Among, counted}

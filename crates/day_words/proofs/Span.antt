@@ -10,11 +10,11 @@ use borrow.Author.Tests.{lt-ltb, le-ltb, le-leb, lt-leb, eq-eqb, ne-eqb, eqb-tru
 use Rattle.lists.specs.Lists.{bit}
 use Rattle.lists.proofs.Tests.{by-cases}
 use Rattle.units.specs.Units.{ticks}
-use Rattle.instants.specs.declared.Going.{Going}
-use Rattle.instants.specs.Going.{same, goingOf}
+use Rattle.goings.specs.declared.Going.{Going}
+use Rattle.goings.specs.Going.{same, goingOf}
 use Rattle.day_lines.specs.declared.Event.{Event}
 use Rattle.day_lines.specs.declared.Event.the-variants.{Finished, Refused, Spanned, Stopped, Unfinished}
-use Rattle.day.specs.Day.{ran, spanEnd}
+use Rattle.day_rules.specs.Day.{ran, spanEnd}
 use Rattle.day_words.specs.Words.{counted, covers}
 use Rattle.day_words.proofs.Said.{Each, each-more, counted-one}
 

@@ -14,10 +14,10 @@ use Rattle.units.specs.Units.{ticks}
 use Rattle.units.specs.declared.ticks.Ticks.{Ticks}
 use Rattle.planning.specs.declared.Plan.{Plan}
 use Rattle.arrivals.specs.Arrivals.{arrivalsIn, arrivalTime}
-use Rattle.instants.specs.declared.Going.{Going}
-use Rattle.instants.specs.Going.{noGoing}
+use Rattle.goings.specs.declared.Going.{Going}
+use Rattle.goings.specs.Going.{noGoing}
 use Rattle.day_lines.specs.declared.Event.the-variants.{Spanned, Stopped}
-use Rattle.day.specs.Day.{Day, goingAt, ran, spanEnd, dayAt, closes, unfinished, eventsOf}
+use Rattle.day_rules.specs.Day.{Day, goingAt, ran, spanEnd, dayAt, closes, unfinished, eventsOf}
 use Rattle.day.specs.Desk.{Desk, runOf, takes, arrivedBy, choiceAt, numberOf, looksAt, lookedAt, ranOn, freshDesk, deskAt}
 use Rattle.day.proofs.Looked.{choice-by, number-by, looked-states, looked-works, looked-past}
 use Rattle.day.proofs.At.{Fine, cores-wide}

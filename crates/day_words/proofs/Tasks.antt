@@ -19,8 +19,8 @@ use Rattle.state_rules.proofs.Facts.{facts}
 use Rattle.dispatch.proofs.Records.{task-in, task-shaped, task-sound}
 use Rattle.arrivals.specs.Arrivals.{arrivalsIn, arrivalTime, arrivalTask}
 use Rattle.run_lengths.specs.Work.{freshWork, noWork}
-use Rattle.instants.specs.declared.Going.{Going}
-use Rattle.instants.specs.Going.{same}
+use Rattle.goings.specs.declared.Going.{Going}
+use Rattle.goings.specs.Going.{same}
 use Rattle.day.specs.Desk.{Desk, lineOf, stateOf, workOf, hadOf, runOf, boxOf, arrivalNo, choiceAt, numberOf, ranOn, freshDesk, deskAt}
 use Rattle.day.proofs.Looked.{looked-states, looked-works, looked-had}
 use Rattle.day.proofs.Ran.{having, having-none, having-one, ran-is}

@@ -9,11 +9,11 @@ use Rattle.lists.specs.Lists.{bit}
 use Rattle.planning.specs.declared.Plan.{Plan}
 use Rattle.dispatch.specs.Release.{releaseOf}
 use Rattle.arrivals.specs.Arrivals.{arrivalsIn, arrivalTime, arrivalTask, arrivalLength}
-use Rattle.instants.specs.declared.Going.{Going}
-use Rattle.instants.specs.Going.{same}
+use Rattle.goings.specs.declared.Going.{Going}
+use Rattle.goings.specs.Going.{same}
 use Rattle.day_lines.specs.declared.Event.{Event}
 use Rattle.day_lines.specs.declared.Event.the-variants.{Finished, Refused, Spanned, Stopped, Unfinished}
-use Rattle.day.specs.Day.{Day, goingAt, arrivals, looks, runsOn, finishes, dayAt}
+use Rattle.day_rules.specs.Day.{Day, goingAt, arrivals, looks, runsOn, finishes, dayAt}
 
 -- a thing is said
 abbrev pub Among : Event → List Event → Type 0

@@ -1,2 +1,3 @@
 pub mod Said
+pub mod Spans
 pub mod Settled

@@ -36,7 +36,7 @@ use Rattle.arrivals.proofs.Exactly.{refused-exactly}
 use Rattle.arrivals.proofs.Passed.{fine, fine-taken}
 use Rattle.day_lines.specs.declared.Event.{Event}
 use Rattle.day_lines.specs.declared.Event.the-variants.{Finished, Refused, Spanned, Stopped, Unfinished}
-use Rattle.day.specs.Day.{
+use Rattle.day_rules.specs.Day.{
   Day,
   startDay,
   goingAt,

@@ -40,7 +40,7 @@ module _ (a b : ℕ) where
 module _ (f : Front) (t v : ℕ) where
   -- where no release time lies ahead
   abbrev past : Bool
-  past = leb (f .last .0) t || eqb (f .period .0) 0
+  past = leb (f .last .0) t || eqb (f .period) 0
 
   -- what is answered lies ahead, where the given instant does
   pub ahead-some : t < v → t < aheadOf f t v
@@ -50,21 +50,21 @@ module _ (f : Front) (t v : ℕ) where
       (λ e. rw e h)
       (λ e.
       let l = leb-false (f .last .0) t (or-false-left _ _ e) in
-      let z = eqb-false (f .period .0) 0 (or-false-right (leb (f .last .0) t) _ e) in
-      let n : ℕ = nextUp (f .last .0) (f .period .0) t in
-      rw e (lesser-above n v t (next-up (f .last .0) (f .period .0) t l (omega (arith, z)) .0) h))
+      let z = eqb-false (f .period) 0 (or-false-right (leb (f .last .0) t) _ e) in
+      let n : ℕ = nextUp (f .last .0) (f .period) t in
+      rw e (lesser-above n v t (next-up (f .last .0) (f .period) t l (omega (arith, z)) .0) h))
 
   -- and is no later than that
   pub ahead-most : aheadOf f t v ≤ v
   unfolding aheadOf
-  ahead-most = by-cases past (λ e. rw e (omega arith)) (λ e. rw e (lesser-right (nextUp (f .last .0) (f .period .0) t) v))
+  ahead-most = by-cases past (λ e. rw e (omega arith)) (λ e. rw e (lesser-right (nextUp (f .last .0) (f .period) t) v))
 
   -- nor later than any release time of the task ahead
-  pub ahead-first : (x q : ℕ) → t < x → x + q * f .period .0 ≡ f .last .0 → 0 < f .period .0 → aheadOf f t v ≤ x
+  pub ahead-first : (x q : ℕ) → t < x → x + q * f .period ≡ f .last .0 → 0 < f .period → aheadOf f t v ≤ x
   unfolding aheadOf
   ahead-first x q h e p =
       let l : leb (f .last .0) t ≡ false = lt-leb (f .last .0) t (omega arith) in
-      let z : eqb (f .period .0) 0 ≡ false = ne-eqb (f .period .0) 0 (λ k. absurd (omega (arith, k))) in
-      let n : ℕ = nextUp (f .last .0) (f .period .0) t in
-      let first : n ≤ x = next-first (f .last .0) (f .period .0) t x q h e p in
+      let z : eqb (f .period) 0 ≡ false = ne-eqb (f .period) 0 (λ k. absurd (omega (arith, k))) in
+      let n : ℕ = nextUp (f .last .0) (f .period) t in
+      let first : n ≤ x = next-first (f .last .0) (f .period) t x q h e p in
       rw (l, z) (omega (arith, lesser-left n v))

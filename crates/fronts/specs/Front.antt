@@ -3,7 +3,7 @@ use Prim.Native.Nat.{ℕ, _+_, _-_, _*_, _/_}
 use mathlib.Core.Bool.{Bool, cond, _&&_, _||_}
 use lib.Dec.{ltb, leb, eqb}
 use Rattle.units.specs.Limits.{coresLimit}
-use Rattle.units.specs.Units.{ticks, duration}
+use Rattle.units.specs.Units.{ticks}
 use Rattle.planning.specs.declared.Line.{Line}
 use Rattle.task_state.specs.declared.State.{State}
 use Rattle.task_state.specs.State.{runAt}
@@ -16,7 +16,7 @@ use Rattle.fronts.specs.declared.Front.{Front}
 
 -- what stands past the last task
 abbrev pub noFront : Front
-noFront = record { core = 0; release = ticks 0; key = 0; length = 0; run = 0; last = ticks 0; period = duration 0 }
+noFront = record { core = 0; release = ticks 0; key = 0; length = 0; run = 0; last = ticks 0; period = 0 }
 
 -- a task's oldest unfinished run: core 0 for none
 unfoldable pub frontOf : Line → State → Work → Front
@@ -29,7 +29,7 @@ frontOf ln st wk =
       length = lengthAt wk 0;
       run = wk .ended + 1;
       last = st .last;
-      period = ln .period;
+      period = ln .period .0;
     }
 
 -- it is on a core, and released at an instant
@@ -46,4 +46,4 @@ lesser a b = cond (ltb a b) a b
 
 -- a task's next release time ahead, where it is before an instant v
 unfoldable pub aheadOf : Front → ℕ → ℕ → ℕ
-aheadOf f t v = cond (leb (f .last .0) t || eqb (f .period .0) 0) v (lesser (nextUp (f .last .0) (f .period .0) t) v)
+aheadOf f t v = cond (leb (f .last .0) t || eqb (f .period) 0) v (lesser (nextUp (f .last .0) (f .period) t) v)

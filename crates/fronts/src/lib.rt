@@ -21,20 +21,10 @@ pub struct Front {
     pub length: u64,
     pub run: u64,
     pub last: Ticks,
-    pub period: Duration,
+    pub period: u64,
 }
 
 impl Front {
-    pub const NONE: Front = Front {
-        core: 0,
-        release: Ticks(0),
-        key: 0,
-        length: 0,
-        run: 0,
-        last: Ticks(0),
-        period: Duration(0),
-    };
-
     // It is on a core, and released.
     pub fn sees(self, time: Ticks) -> bool
         ensures { λ r. ⌜ r ≡ sees self (time .0) ⌝ }
@@ -48,11 +38,10 @@ impl Front {
         ensures { λ r. ⌜ r ≡ ticks (aheadOf self (time .0) (until .0)) ⌝ }
     {
         let last = self.last;
-        let period = self.period;
-        if (last.0 <= time.0) | (period.0 == 0) {
+        let apart = self.period;
+        if (last.0 <= time.0) | (apart == 0) {
             return until;
         }
-        let apart = period.0 as u64;
         let steps = (last.0 - time.0 - 1) / apart;
         let next = last.0 - steps * apart;
         if next < until.0 {
@@ -79,7 +68,8 @@ pub fn front_of(line: Line, state: State, work: Work) -> Front
     ensures { λ r. ⌜ r ≡ frontOf line state work ⌝ }
 {
     let last = state.last;
-    let period = line.period;
+    let apart = line.period;
+    let period = apart.0 as u64;
     let length = work.lengths[0];
     let run = work.ended + 1;
     if state.live == 0 {

@@ -9,9 +9,10 @@ use lib.Seq.{getD-set-same, getD-set-other}
 use borrow.Author.Tests.{eqb-true, eqb-false}
 use Rattle.lists.proofs.Tests.{by-cases}
 use Rattle.instants.specs.declared.Seen.{Seen}
-use Rattle.instants.specs.declared.Going.{Going}
+use Rattle.goings.specs.declared.Going.{Going}
 use Rattle.instants.specs.Seen.{idle}
-use Rattle.instants.specs.Going.{noGoing, goingOf, goingsOf}
+use Rattle.goings.specs.Going.{noGoing, goingOf}
+use Rattle.instants.specs.Goings.{goingsOf}
 
 module _ (gs : List Going) (ss : List Seen) (t : ℕ) where
   -- what core n has, of a run that had it

@@ -1,5 +1,6 @@
 -- How long an instant's choices last: the least that one of them still has to run.
-use Prim.Native.Nat.{ℕ, zero, suc, _≤_, _<_}
+use Prim.Native.Nat.{ℕ, zero, suc, _+_, _≤_, _<_}
+use mathlib.Core.Path.{_≡_}
 use mathlib.Core.Bool.{Bool, _&&_}
 use mathlib.Core.List.{List}
 use native.Mathlib.Omega.{arith}
@@ -46,11 +47,38 @@ module _ (ss : List Seen) (v : ℕ) where
       (λ e. let same = eqb-true k n e in rw same (least-here n (rw same at h)))
       (λ e. omega (arith, least-down n, least-each n k (omega (arith, eqb-false k n e)) h))
 
-  -- and something, where each choice has something left
-  pub least-some : (n : ℕ) → 0 < v → ((k : ℕ) → k < n → 0 < getD ss k idle .task → 0 < getD ss k idle .left) → 0 < leastLeft ss v n
+  -- and no less than what neither is below
+  pub least-from : (w n : ℕ) → w ≤ v → ((k : ℕ) → k < n → 0 < getD ss k idle .task → w ≤ getD ss k idle .left) → w ≤ leastLeft ss v n
   unfolding leastLeft
-  least-some zero p h = p
-  least-some (suc n) p h =
+  least-from w zero p h = p
+  least-from w (suc n) p h =
       by-cases (less n)
       (λ e. rw e (h n (omega arith) (ltb-true 0 (getD ss n idle .task) (and-left _ _ e))))
-      (λ e. rw e (least-some n p (λ k l. h k (omega arith))))
+      (λ e. rw e (least-from w n p (λ k l. h k (omega arith))))
+
+  -- so it is something, where each choice has something left
+  pub least-some : (n : ℕ) → 0 < v → ((k : ℕ) → k < n → 0 < getD ss k idle .task → 0 < getD ss k idle .left) → 0 < leastLeft ss v n
+  least-some n p h = least-from 1 n p h
+
+module _ (ss : List Seen) (v n : ℕ) where
+  -- where one tick more is given
+  abbrev further : ℕ
+  further = leastLeft ss (v + 1) n
+
+  -- every choice has more left
+  pub least-beyond : v < further → (k : ℕ) → k < n → 0 < getD ss k idle .task → v < getD ss k idle .left
+  least-beyond a k l h = omega (arith, a, least-each ss (v + 1) n k l h)
+
+  -- and all is given that was asked for
+  pub least-whole : v < further → leastLeft ss v n ≡ v
+  least-whole a =
+      omega (arith, least-most ss v n, least-from ss v v n (omega arith) (λ k l h. omega (arith, least-beyond a k l h)))
+
+  -- or nothing changes
+  pub least-part : further ≤ v → leastLeft ss v n ≡ further
+  least-part b =
+      omega (
+        arith,
+        least-from ss (v + 1) (leastLeft ss v n) n (omega (arith, least-most ss v n)) (least-each ss v n),
+        least-from ss v further n b (least-each ss (v + 1) n),
+      )

@@ -35,6 +35,6 @@ module _ (fs : List Front) (t v : ℕ) where
       (λ e. omega (arith, ahead-most (getD fs n noFront) t (nextOf fs t v n), next-each n i (omega (arith, eqb-false i n e))))
 
   -- nor than any release time ahead
-  pub next-first : (n i x q : ℕ) → i < n → t < x → x + q * getD fs i noFront .period .0 ≡ getD fs i noFront .last .0 → 0 < getD fs i noFront .period .0
+  pub next-first : (n i x q : ℕ) → i < n → t < x → x + q * getD fs i noFront .period ≡ getD fs i noFront .last .0 → 0 < getD fs i noFront .period
       → nextOf fs t v n ≤ x
   next-first n i x q l h e p = omega (arith, next-each n i l, ahead-first (getD fs i noFront) t (nextOf fs t v i) x q h e p)

@@ -1,3 +1,2 @@
 pub mod Seen
-pub mod Going
-pub mod Inner
+pub mod Goings

@@ -1,5 +1,5 @@
 -- The choices of all cores at an instant, in one scan of the tasks, and how long they last. Tasks are counted from 1 where a choice names one.
-use Prim.Native.Nat.{ℕ, zero, suc, _+_, _-_}
+use Prim.Native.Nat.{ℕ, zero, suc, _-_}
 use mathlib.Core.Bool.{cond, _&&_, _||_}
 use mathlib.Core.List.{List}
 use lib.Dec.{ltb, eqb}
@@ -47,10 +47,3 @@ leastLeft ss v zero = v
 leastLeft ss v (suc n) =
     let one = getD ss n idle in
     cond (ltb 0 (one .task) && ltb (one .left) (leastLeft ss v n)) (one .left) (leastLeft ss v n)
-
--- the ticks that each task's oldest run has had, after m more for the choice of each of the first n cores
-unfoldable pub ranBy : List Seen → ℕ → List ℕ → ℕ → List ℕ
-ranBy ss m hs zero = hs
-ranBy ss m hs (suc n) =
-    let i = getD ss n idle .task in
-    cond (ltb 0 i) (set (ranBy ss m hs n) (i - 1) (getD (ranBy ss m hs n) (i - 1) 0 + m)) (ranBy ss m hs n)

@@ -1,15 +1,15 @@
 // The choices of all cores at an instant, in one scan of the tasks, and how long they last.
+use front_rows::front_in;
 use fronts::Front;
 use units::limits::CORES;
-use units::limits::TASKS;
 use units::ticks::Ticks;
 ghost use mathlib.Core.Path.{_≡_};
-ghost use Prim.Native.Nat.{_≤_};
+ghost use Prim.Native.Nat.{_*_, _≤_};
+ghost use lib.ListN.{length};
+ghost use Rattle.front_rows.specs.Rows.{frontsIn};
 ghost use Rattle.units.specs.Limits.{coresLimit, tasksLimit};
 ghost use Rattle.units.specs.Units.{ticks};
-ghost use Rattle.instants.specs.Seen.{better, seenOf, nextOf, leastLeft, ranBy};
-ghost use Rattle.instants.specs.Going.{goingOf, goingsOf};
-ghost use Rattle.instants.specs.Inner.{Addable};
+ghost use Rattle.instants.specs.Seen.{better, seenOf, nextOf, leastLeft};
 
 // A core's choice: its task from 1, 0 where the core is idle, its key, its run's number and the ticks that this still has to run.
 pub struct Seen {
@@ -28,7 +28,7 @@ impl Seen {
     };
 
     // The better of the best so far and a task, from 1, whose oldest run has had so many ticks.
-    pub fn better(self, task: usize, front: Front, had: u64) -> Seen
+    fn better(self, task: usize, front: Front, had: u64) -> Seen
         ensures { λ r. ⌜ r ≡ better self task front had ⌝ }
     {
         if (self.task == 0) | (front.key < self.key) {
@@ -54,22 +54,16 @@ pub struct Instant {
 }
 
 // One scan of the tasks for all cores.
-pub fn scan(
-    fronts: [Front; TASKS],
-    had: [u64; TASKS],
-    count: usize,
-    time: Ticks,
-    until: Ticks,
-) -> Instant
-    requires { ⌜ count ≤ tasksLimit ⌝ }
-    ensures { λ r. ⌜ r .seen ≡ seenOf fronts had (time .0) count ⌝ }
-    ensures { λ r. ⌜ r .next ≡ ticks (nextOf fronts (time .0) (until .0) count) ⌝ }
+pub fn scan(fronts: &[u64], had: &[u64], count: usize, time: Ticks, until: Ticks) -> Instant
+    requires { ⌜ (count ≤ tasksLimit) × (length (now fronts) ≡ 7 * tasksLimit) × (length (now had) ≡ tasksLimit) ⌝ }
+    ensures { λ r. ⌜ r .seen ≡ seenOf (frontsIn (now (fronts .entry))) (now (had .entry)) (time .0) count ⌝ }
+    ensures { λ r. ⌜ r .next ≡ ticks (nextOf (frontsIn (now (fronts .entry))) (time .0) (until .0) count) ⌝ }
 {
     let mut seen = [Seen::IDLE; CORES];
     let mut next = until;
     let mut i: usize = 0;
     while i < count {
-        let front = fronts[i];
+        let front = front_in(fronts, i);
         let ran = had[i];
         i += 1;
         if front.sees(time) {
@@ -100,75 +94,4 @@ pub fn least_left(seen: [Seen; CORES], cores: usize, most: u64) -> u64
         k += 1;
     }
     least
-}
-
-// The ticks that each task's oldest run has had, after so many more for each choice.
-pub fn ran_by(had: [u64; TASKS], seen: [Seen; CORES], cores: usize, more: u64) -> [u64; TASKS]
-    requires { ⌜ Addable had seen cores more ⌝ }
-    ensures { λ r. ⌜ r ≡ ranBy seen more had cores ⌝ }
-{
-    let mut after = had;
-    let mut k: usize = 0;
-    while k < cores {
-        let one = seen[k];
-        if 0 < one.task {
-            let i = one.task - 1;
-            let ran = after[i];
-            after[i] = ran + more;
-        }
-        k += 1;
-    }
-    after
-}
-
-// The run that has a core, its task from 1, 0 for none, and since when.
-pub struct Going {
-    pub task: usize,
-    pub run: u64,
-    pub from: Ticks,
-}
-
-impl Going {
-    pub const NONE: Going = Going {
-        task: 0,
-        run: 0,
-        from: Ticks(0),
-    };
-
-    // It goes on where the choice is the same run, and else the choice goes from now on.
-    pub fn then(self, seen: Seen, time: Ticks) -> Going
-        ensures { λ r. ⌜ r ≡ goingOf self (seen .task) (seen .run) (time .0) ⌝ }
-    {
-        let same_task = self.task == seen.task;
-        let same_run = self.run == seen.run;
-        if same_task & same_run {
-            return self;
-        }
-        Going {
-            task: seen.task,
-            run: seen.run,
-            from: time,
-        }
-    }
-}
-
-// The same of each core.
-pub fn goings(
-    going: [Going; CORES],
-    seen: [Seen; CORES],
-    cores: usize,
-    time: Ticks,
-) -> [Going; CORES]
-    requires { ⌜ cores ≤ coresLimit ⌝ }
-    ensures { λ r. ⌜ r ≡ goingsOf going seen (time .0) cores ⌝ }
-{
-    let mut after = going;
-    let mut core: usize = 0;
-    while core < cores {
-        let old = after[core];
-        let one = seen[core];
-        after[core] = old.then(one, time);
-        core += 1;
-    }
-    after
 }

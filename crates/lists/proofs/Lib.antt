@@ -5,3 +5,4 @@ pub mod Parts
 pub mod Rows
 pub mod Filled
 pub mod Below
+pub mod Tabled

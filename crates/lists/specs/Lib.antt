@@ -2,3 +2,4 @@ pub mod Lists
 pub mod Rows
 pub mod Below
 pub mod Settled
+pub mod Tabled

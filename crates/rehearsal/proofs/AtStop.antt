@@ -5,7 +5,7 @@ use mathlib.Core.List.{List, _∷_, _++_, append-assoc, append-nil}
 use native.Mathlib.Nat.{le-antisymm}
 use native.Mathlib.Omega.{arith}
 use native.Mathlib.Numerals.{add-one}
-use lib.ListN.{getD, replicate, getD-replicate}
+use lib.ListN.{length, getD, replicate, getD-replicate}
 use lib.Seq.{getD-set-other}
 use Rattle.units.specs.Limits.{coresLimit, tasksLimit, runsLimit}
 use Rattle.units.specs.Units.{ticks}
@@ -15,58 +15,30 @@ use Rattle.state_rules.proofs.Facts.{facts}
 use Rattle.dispatch.proofs.Records.{task-sound}
 use Rattle.seats.specs.declared.Seat.{Seat}
 use Rattle.seats.specs.Seat.{noSeat}
-use Rattle.instants.specs.declared.Going.{Going}
-use Rattle.instants.specs.Going.{noGoing}
+use Rattle.goings.specs.declared.Going.{Going}
+use Rattle.goings.specs.Going.{noGoing}
+use Rattle.goings.specs.Rows.{goingsIn}
+use Rattle.goings.proofs.Rows.{goings-long}
+use Rattle.instants.specs.declared.Seen.{Seen}
+use Rattle.instants.specs.Seen.{idle}
+use Rattle.instants.specs.Goings.{goingsOf}
+use Rattle.instants.proofs.GoingsAt.{goings-at}
+use Rattle.day.proofs.Looked.{goes-task, goes-run}
 use Rattle.day_lines.specs.declared.Event.{Event}
 use Rattle.day_lines.specs.declared.Event.the-variants.{Stopped}
 use Rattle.day_lines.specs.Lines.{eventText, eventsText}
-use Rattle.day_lines.specs.Window.{Windowed}
-use Rattle.day_lines.proofs.Windows.{none, then, recast}
+use Rattle.day_window.specs.Window.{Windowed}
+use Rattle.day_window.proofs.Windows.{none, then, recast}
 use Rattle.day_lines.proofs.Events.{events-append}
-use Rattle.day.specs.Day.{Day, goingAt, spanEnd, closes, runsLeft, unfinished, dayAt, eventsOf, dayText}
+use Rattle.day_rules.specs.Day.{Day, goingAt, spanEnd, closes, runsLeft, unfinished, dayAt, eventsOf, dayText}
 use Rattle.day.specs.Desk.{lineOf, stateOf, boxOf, deskOf, spansEnd, deskAt}
 use Rattle.day.specs.Desk as model
 use Rattle.day.proofs.At.{stands-at}
 use Rattle.day.proofs.Day.{is-at}
 use Rattle.rehearsal.specs.declared.steps.Desk.{Desk}
 use Rattle.rehearsal.specs.Inner.{Rehearsable, Stood}
-use Rattle.rehearsal.specs.Left.{leftAt, leftBy, Leavable}
+use Rattle.unfinished_runs.specs.Left.{leftBy, Leavable}
 use Rattle.rehearsal.proofs.Rehearsing.{fine-of}
-
--- the first k of n tasks' unfinished runs are written, eight lines each at most
-pub record Leaving (ss : List Seat) (hs : List ℕ) (n : ℕ) (before : List ℕ) (skip at : ℕ) (now : List ℕ) (end k : ℕ) : Type 0 where
-  pub wrote : Windowed before skip at (eventsText (leftBy ss hs k)) now end
-  pub near : end ≤ at + 180 * runsLimit * k
-  pub inside : k ≤ n
-
-module _ (ss : List Seat) (hs : List ℕ) (n : ℕ) where
-  pub begun : (before : List ℕ) (skip at : ℕ) → Leaving ss hs n before skip at before at 0
-  begun before skip at = record { wrote = none before skip at; near = omega arith; inside = omega arith }
-
-  module _ {before now : List ℕ} {skip at end k : ℕ} (h : Leaving ss hs n before skip at now end k) where
-    -- those of one task more
-    pub onward : {now′ : List ℕ} {from end′ : ℕ} {more : List Event} → k < n
-        → Windowed now skip from (eventsText more) now′ end′ → end′ ≤ from + 180 * runsLimit → from ≡ end → more ≡ leftAt ss hs k
-        → Leaving ss hs n before skip at now′ end′ (k + 1)
-    onward {now′} {from} {end′} {more} l w b f e = record {
-      wrote =
-          recast
-          (sym (events-append (leftBy ss hs k) more)
-          ∙ ap (λ (x : List Event). eventsText (leftBy ss hs k ++ x)) e
-          ∙ ap (λ (j : ℕ). eventsText (leftBy ss hs j)) (sym (add-one k)))
-          (then (h .wrote) (rw (sym f) w));
-      near = omega (arith, h .near, b, f);
-      inside = omega (arith, l);
-    }
-
-    -- all of them
-    pub all : n ≤ k → Windowed before skip at (eventsText (leftBy ss hs n)) now end
-    all l = recast (ap (λ (m : ℕ). eventsText (leftBy ss hs m)) (le-antisymm (h .inside) l)) (h .wrote)
-
--- task k's runs are told with its number, from 1
-pub left-one : (ss : List Seat) (hs : List ℕ) (k : ℕ) {i : ℕ} → i ≡ suc k
-    → runsLeft (getD ss k noSeat .state) (getD ss k noSeat .work) (getD hs k 0) i (getD ss k noSeat .state .live) ≡ leftAt ss hs k
-left-one ss hs k e = rw e refl
 
 -- the spans of the cores that were not reached are as they were
 closes-after : (t n p : ℕ) (d : Day) → n ≤ p → goingAt (closes t n d) p ≡ goingAt d p
@@ -81,6 +53,20 @@ closes-said t (suc n) d l =
     rw (closes-said t n d (omega (arith, l)), closes-after t n n d (omega arith), getD-replicate coresLimit n noGoing noGoing l)
     (append-assoc (d .said) (spansEnd (d .going) (replicate coresLimit noGoing) t n) (spanEnd n (goingAt d n) 0 0 t))
 
+-- where no core has a choice, every span ends
+spans-close : (gs : List Going) (t m : ℕ) → m ≤ length gs → m ≤ coresLimit → (n : ℕ) → n ≤ m
+    → spansEnd gs (goingsOf gs (replicate coresLimit idle) t m) t n ≡ spansEnd gs (replicate coresLimit noGoing) t n
+spans-close gs t m wide few zero l = refl
+spans-close gs t m wide few (suc n) l =
+    let ss = replicate coresLimit idle in
+    let e = getD-replicate coresLimit n idle idle (omega (arith, l, few)) in
+    let at = goings-at gs ss t m n l wide in
+    let task = ap (λ (g : Going). g .task) at ∙ goes-task (getD gs n noGoing) (getD ss n idle .task) (getD ss n idle .run) t
+    ∙ ap (λ (x : Seen). x .task) e in
+    let run = ap (λ (g : Going). g .run) at ∙ goes-run (getD gs n noGoing) (getD ss n idle .task) (getD ss n idle .run) t
+    ∙ ap (λ (x : Seen). x .run) e in
+    rw (spans-close gs t m wide few n (omega (arith, l)), task, run, getD-replicate coresLimit n noGoing noGoing (omega (arith, l, few))) refl
+
 module _ (pl : Plan) (xs : List ℕ) (stop : ℕ) (q : Rehearsable pl xs stop) where
   abbrev m : model.Desk
   m = deskAt pl xs stop
@@ -94,7 +80,7 @@ module _ (pl : Plan) (xs : List ℕ) (stop : ℕ) (q : Rehearsable pl xs stop) w
   pub tasks-in : pl .count ≤ tasksLimit
   tasks-in = tasks-few pl (q .sound)
 
-  module _ (r : Desk) (s : Stood pl xs stop r) where
+  module _ (r : Desk) (hs gs : List ℕ) (s : Stood pl xs stop r hs gs) where
     -- what is asked of the tasks
     pub leavable : Leavable (r .seats) (pl .count)
     leavable = record {
@@ -106,28 +92,45 @@ module _ (pl : Plan) (xs : List ℕ) (stop : ℕ) (q : Rehearsable pl xs stop) w
     }
 
     -- the unfinished runs
-    left-is : (n : ℕ) → n ≤ tasksLimit → leftBy (r .seats) (r .had) n ≡ unfinished (dayAt pl xs stop) n
+    left-is : (n : ℕ) → n ≤ tasksLimit → leftBy (r .seats) hs n ≡ unfinished (dayAt pl xs stop) n
     left-is zero l = refl
     left-is (suc n) l = rw (left-is n (omega (arith, l)), s .seated n l, s .had, ← same-desk) refl
 
+    -- the spans of the first n cores that end, where ss are their choices
+    abbrev spans : List Seen → ℕ → List Event
+    spans ss n = spansEnd (goingsIn gs) (goingsOf (goingsIn gs) ss stop n) stop n
+
+    spans-are : spans (replicate coresLimit idle) (pl .cores) ≡ spansEnd (goingsIn gs) (replicate coresLimit noGoing) stop (pl .cores)
+    spans-are = spans-close (goingsIn gs) stop (pl .cores) (omega (arith, goings-long gs, cores-in)) cores-in (pl .cores) (omega arith)
+
     -- all that is said
-    said-is : (hs : List Going) (n : ℕ) → hs ≡ replicate coresLimit noGoing → n ≡ pl .count
-        → (m .said ++ spansEnd (r .going) hs stop (pl .cores)) ++ (Stopped (ticks stop) ∷ leftBy (r .seats) (r .had) n) ≡ eventsOf pl xs stop
+    said-is : {ss : List Seen} {p n : ℕ} → ss ≡ replicate coresLimit idle → p ≡ pl .cores → n ≡ pl .count
+        → (m .said ++ spans ss p) ++ (Stopped (ticks stop) ∷ leftBy (r .seats) hs n) ≡ eventsOf pl xs stop
     unfolding eventsOf
-    said-is hs n idle whole =
-        rw (idle, whole, left-is (pl .count) tasks-in, closes-said stop (pl .cores) (dayAt pl xs stop) cores-in, s .going, ← same-desk) refl
+    said-is none every whole =
+        rw (
+          none,
+          every,
+          whole,
+          spans-are,
+          left-is (pl .count) tasks-in,
+          closes-said stop (pl .cores) (dayAt pl xs stop) cores-in,
+          s .going,
+          ← same-desk,
+        )
+        refl
 
     -- what was written, in its order
-    pub texts : {a b c d e : List ℕ} {skip i j k l n : ℕ} {hs : List Going} → Windowed a skip 0 (eventsText (m .said)) b i
-        → Windowed b skip i (eventsText (spansEnd (r .going) hs stop (pl .cores))) c j
+    pub texts : {a b c d e : List ℕ} {skip i j k l p n : ℕ} {ss : List Seen} → Windowed a skip 0 (eventsText (m .said)) b i
+        → Windowed b skip i (eventsText (spans ss p)) c j
         → Windowed c skip j (eventText (Stopped (ticks stop))) d k
-        → Windowed d skip k (eventsText (leftBy (r .seats) (r .had) n)) e l
-        → hs ≡ replicate coresLimit noGoing → n ≡ pl .count → Windowed a skip 0 (dayText pl xs stop) e l
-    texts {n = n} {hs = hs} w x y z idle whole =
+        → Windowed d skip k (eventsText (leftBy (r .seats) hs n)) e l
+        → ss ≡ replicate coresLimit idle → p ≡ pl .cores → n ≡ pl .count → Windowed a skip 0 (dayText pl xs stop) e l
+    texts {p = p} {n = n} {ss = ss} w x y z none every whole =
         let ds = m .said in
-        let ss = spansEnd (r .going) hs stop (pl .cores) in
-        let ls = leftBy (r .seats) (r .had) n in
+        let es = spans ss p in
+        let ls = leftBy (r .seats) hs n in
         recast
-        (ap (λ (v : List ℕ). v ++ eventsText (Stopped (ticks stop) ∷ ls)) (sym (events-append ds ss))
-        ∙ sym (events-append (ds ++ ss) (Stopped (ticks stop) ∷ ls)) ∙ ap eventsText (said-is hs n idle whole))
+        (ap (λ (v : List ℕ). v ++ eventsText (Stopped (ticks stop) ∷ ls)) (sym (events-append ds es))
+        ∙ sym (events-append (ds ++ es) (Stopped (ticks stop) ∷ ls)) ∙ ap eventsText (said-is none every whole))
         (then (then w x) (then y z))

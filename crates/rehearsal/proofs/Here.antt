@@ -10,6 +10,7 @@ use lib.Dec.{ltb, eqb}
 use lib.IntN.{subℕ}
 use lib.ListN.{length, getD, set, length-set}
 use lib.Seq.{getD-set-same, getD-set-other}
+use Rattle.lists.proofs.Tests.{by-cases}
 use borrow.Author.Tests.{ltb-true, ltb-false, ne-eqb}
 use Rattle.units.specs.Limits.{tasksLimit, clockLimit}
 use Rattle.units.specs.Units.{ticks}
@@ -22,24 +23,25 @@ use Rattle.seats.specs.declared.Seat.{Seat}
 use Rattle.seats.specs.declared.Ended.{Ended}
 use Rattle.seats.specs.declared.Arrived.{Arrived}
 use Rattle.seats.specs.Seat.{seat, noSeat, arrivedOf, endedOf}
-use Rattle.instants.specs.declared.Going.{Going}
+use Rattle.goings.specs.declared.Going.{Going}
 use Rattle.instants.specs.declared.Seen.{Seen}
-use Rattle.instants.specs.Seen.{idle, seenOf, nextOf, leastLeft, ranBy as ranOf}
-use Rattle.instants.specs.Going.{noGoing, goingsOf}
+use Rattle.instants.specs.Seen.{idle, seenOf, nextOf, leastLeft}
+use Rattle.instants.proofs.Least.{least-whole, least-beyond}
+use Rattle.goings.specs.Going.{noGoing, ranBy}
+use Rattle.instants.specs.Goings.{goingsOf}
 use Rattle.day_lines.specs.declared.Event.the-variants.{Finished, Refused}
 use Rattle.dispatch.proofs.Records.{task-in}
-use Rattle.day.specs.Day.{ran}
-use Rattle.day.specs.Desk.{Desk, lineOf, stateOf, workOf, runOf, boxOf, arrivalNo, takes, choiceAt, numberOf, lookedAt, spansEnd, ranBy, ranOn, doneOf, endsOn, ends, within, deskAt}
+use Rattle.day_rules.specs.Day.{ran}
+use Rattle.day.specs.Desk.{Desk, lineOf, stateOf, workOf, runOf, boxOf, arrivalNo, takes, choiceAt, numberOf, lookedAt, spansEnd, ranOn, doneOf, endsOn, ends, within, deskAt}
 use Rattle.day.proofs.Stands.{Stands, Resting, Busy, Ending, state-here, work-here, state-there, work-there, had-are, going-are}
 use Rattle.day.proofs.At.{Fine, cores-wide, state-here as arrived-state, work-here as arrived-work, state-there as other-state, work-there as other-work, had-same, going-same, same-states, same-works, same-had, same-going}
 use Rattle.day.proofs.Within.{core-more, arrival-more, on-arrivals, on-cores, arrivals-all, within-ending, within-stands}
 use Rattle.day.proofs.Looked.{goes-task, goes-run, looked-states, looked-works, looked-had, looked-at}
-use Rattle.day.proofs.Skip.{seen}
-use Rattle.day.proofs.Jump.{sights, jump, jump-some, jump-most, jumped, task-is, run-is}
-use Rattle.day.proofs.Onward.{ran-same, goings-same, looked-said}
-use Rattle.rehearsal.specs.Parts.{comingAt}
+use Rattle.day.proofs.Skip.{seen, arrived-none}
+use Rattle.day.proofs.Jump.{sights, jump, jump-some, jump-most, jumped, jumped-all, task-is, run-is}
+use Rattle.day.proofs.Onward.{goings-same, looked-said}
 use Rattle.rehearsal.proofs.Parted.{coming-cases}
-use Rattle.rehearsal.specs.Parts.{doneBy}
+use Rattle.rehearsal.specs.Parts.{comingAt, doneBy, coreAfter}
 
 -- what the code holds of each task is the desk's
 pub record Holds (pl : Plan) (d : Desk) (ss : List Seat) (fs : List Front) (hs : List ℕ) (gs : List Going) : Type 0 where
@@ -318,10 +320,34 @@ module _ (pl : Plan) (xs : List ℕ) (f : Fine pl xs) (up : (j : ℕ) → j + 1 
   pub long-most : t + long ≤ stop
   long-most = omega (arith, jump-most pl xs f t v (coming-now .0) within-limit coming-all fs (stands .0) (stands .1) (held .front), coming-now .1)
 
-  after-jump : within pl xs (t + long) k 0 ≡ ranOn long (pl .cores) (lookedAt pl t (pl .cores) z)
+  -- at most so long
+  abbrev pub most : ℕ
+  most = nextOf fs t v (pl .count) - t
+
+  -- the next core then: all are through, where each choice has more left
+  abbrev pub coreOn : ℕ
+  coreOn = coreAfter sees most (pl .cores)
+
+  after-all : most < leastLeft sees (most + 1) (pl .cores) → within pl xs (t + long) k (pl .cores) ≡ ranOn long (pl .cores) (lookedAt pl t (pl .cores) z)
+  after-all more =
+      on-arrivals pl xs (t + long) k (pl .cores) (omega arith)
+      ∙ arrived-none pl xs (t + long) k (deskAt pl xs (t + long)) (λ j b e. omega (arith, s .before j b, e, long-some))
+      ∙ jumped-all pl xs f t v (coming-now .0) within-limit coming-all fs (stands .0) (stands .1) (held .front)
+      (λ p l some. omega (arith, least-whole sees most (pl .cores) more, least-beyond sees most (pl .cores) more p l some))
+
+  after-jump : within pl xs (t + long) k coreOn ≡ ranOn long (pl .cores) (lookedAt pl t (pl .cores) z)
+  unfolding coreAfter
   after-jump =
-      on-cores pl xs (t + long) k 0 some
-      ∙ jumped pl xs f t v (coming-now .0) within-limit coming-all fs (stands .0) (stands .1) (held .front)
+      by-cases (ltb most (leastLeft sees (most + 1) (pl .cores)))
+      (λ e. rw e (after-all (ltb-true most (leastLeft sees (most + 1) (pl .cores)) e)))
+      (λ e.
+      rw e
+      (on-cores pl xs (t + long) k 0 some
+      ∙ jumped pl xs f t v (coming-now .0) within-limit coming-all fs (stands .0) (stands .1) (held .front)))
+
+  core-most : coreOn ≤ pl .cores
+  unfolding coreAfter
+  core-most = by-cases (ltb most (leastLeft sees (most + 1) (pl .cores))) (λ e. rw e (omega arith)) (λ e. rw e (omega arith))
 
   tasks : (p : ℕ) → p < pl .cores → getD sees p idle .task ≡ choiceAt pl t z p
   tasks = task-is pl xs f t v (coming-now .0) within-limit coming-all fs (stands .0) (stands .1) (held .front)
@@ -345,15 +371,14 @@ module _ (pl : Plan) (xs : List ℕ) (f : Fine pl xs) (up : (j : ℕ) → j + 1 
       rw (going-after, looked-at pl t z (pl .cores) p l wide) (goes-run (runOf z p) (choiceAt pl t z p) (numberOf z (choiceAt pl t z p)) t)
 
   -- and the ticks had
-  had-after : ranOf sees long hs (pl .cores) ≡ ranBy (lookedAt pl t (pl .cores) z .going) long (lookedAt pl t (pl .cores) z .had) (pl .cores)
-  had-after =
-      ran-same sees (goingsOf gs sees t (pl .cores)) long hs (pl .cores) (λ p l. tasks p l ∙ sym (has-task p l))
-      ∙ rw (going-after, looked-had pl t z (pl .cores), held .had) refl
+  had-after : ranBy (goingsOf gs sees t (pl .cores)) long hs (pl .cores)
+      ≡ ranBy (lookedAt pl t (pl .cores) z .going) long (lookedAt pl t (pl .cores) z .had) (pl .cores)
+  had-after = rw (going-after, looked-had pl t z (pl .cores), held .had) refl
 
-  stage-jumped : Stage pl xs stop (t + long) k 0
+  stage-jumped : Stage pl xs stop (t + long) k coreOn
   stage-jumped = record {
     time = long-most;
-    core = omega arith;
+    core = core-most;
     next = s .next;
     begun = λ m. omega (arith, long-some);
     before = λ j b. omega (arith, s .before j b);
@@ -363,7 +388,8 @@ module _ (pl : Plan) (xs : List ℕ) (f : Fine pl xs) (up : (j : ℕ) → j + 1 
         omega (arith, jump-most pl xs f t v (coming-now .0) within-limit coming-all fs (stands .0) (stands .1) (held .front), coming-now .2 j a b);
   }
 
-  holds-ran : Holds pl (ranOn long (pl .cores) (lookedAt pl t (pl .cores) z)) ss fs (ranOf sees long hs (pl .cores)) (goingsOf gs sees t (pl .cores))
+  holds-ran : Holds pl (ranOn long (pl .cores) (lookedAt pl t (pl .cores) z)) ss fs (ranBy (goingsOf gs sees t (pl .cores)) long hs (pl .cores))
+      (goingsOf gs sees t (pl .cores))
   unfolding ranOn
   holds-ran = record {
     seats = held .seats;
@@ -379,9 +405,9 @@ module _ (pl : Plan) (xs : List ℕ) (f : Fine pl xs) (up : (j : ℕ) → j + 1 
   said-ran = rw (held .going) (looked-said pl t z (pl .cores) (goingsOf (z .going) sees t (pl .cores))
       (λ p l. rw (held .going) at (has-task p l)) (λ p l. rw (held .going) at (has-run p l)))
 
-  pub jumped-on : Stage pl xs stop (t + long) k 0
-      × Holds pl (within pl xs (t + long) k 0) ss fs (ranOf sees long hs (pl .cores)) (goingsOf gs sees t (pl .cores))
-      × (within pl xs (t + long) k 0 .said ≡ within pl xs t k c .said ++ spansEnd gs (goingsOf gs sees t (pl .cores)) t (pl .cores))
+  pub jumped-on : Stage pl xs stop (t + long) k coreOn
+      × Holds pl (within pl xs (t + long) k coreOn) ss fs (ranBy (goingsOf gs sees t (pl .cores)) long hs (pl .cores)) (goingsOf gs sees t (pl .cores))
+      × (within pl xs (t + long) k coreOn .said ≡ within pl xs t k c .said ++ spansEnd gs (goingsOf gs sees t (pl .cores)) t (pl .cores))
   jumped-on = (
     stage-jumped,
     rw after-jump holds-ran,
@@ -389,17 +415,25 @@ module _ (pl : Plan) (xs : List ℕ) (f : Fine pl xs) (up : (j : ℕ) → j + 1 
   )
 
   -- the same by what the code holds
-  same-sees : seenOf fs hs t (pl .count) ≡ sees
+  abbrev pub chosen : List Seen
+  chosen = seenOf fs hs t (pl .count)
+
+  same-sees : chosen ≡ sees
   same-sees = ap (λ (ys : List ℕ). seenOf fs ys t (pl .count)) (held .had)
 
   abbrev pub ticksOn : ℕ
-  ticksOn = leastLeft (seenOf fs hs t (pl .count)) (nextOf fs t (comingAt xs k stop) (pl .count) - t) (pl .cores)
+  ticksOn = leastLeft chosen most (pl .cores)
+
+  abbrev pub goingOn : List Going
+  goingOn = goingsOf gs chosen t (pl .cores)
+
+  abbrev pub nextCore : ℕ
+  nextCore = coreAfter chosen most (pl .cores)
 
   pub ticks-some : 0 < ticksOn
   ticks-some = rw same-sees long-some
 
-  pub jumped-by : Stage pl xs stop (t + ticksOn) k 0
-      × Holds pl (within pl xs (t + ticksOn) k 0) ss fs (ranOf (seenOf fs hs t (pl .count)) ticksOn hs (pl .cores))
-      (goingsOf gs (seenOf fs hs t (pl .count)) t (pl .cores))
-      × (within pl xs (t + ticksOn) k 0 .said ≡ within pl xs t k c .said ++ spansEnd gs (goingsOf gs (seenOf fs hs t (pl .count)) t (pl .cores)) t (pl .cores))
+  pub jumped-by : Stage pl xs stop (t + ticksOn) k nextCore
+      × Holds pl (within pl xs (t + ticksOn) k nextCore) ss fs (ranBy goingOn ticksOn hs (pl .cores)) goingOn
+      × (within pl xs (t + ticksOn) k nextCore .said ≡ within pl xs t k c .said ++ spansEnd gs goingOn t (pl .cores))
   jumped-by = rw same-sees jumped-on

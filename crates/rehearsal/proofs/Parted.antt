@@ -1,16 +1,16 @@
 -- Parts of a rehearsal's steps: what their code's steps give, and what they are.
-use Prim.Native.Nat.{ℕ, zero, suc, _+_, _-_, _≤_, _<_}
-use mathlib.Core.Path.{_≡_, _∙_}
+use Prim.Native.Nat.{ℕ, zero, suc, _+_, _*_, _≤_, _<_}
+use mathlib.Core.Path.{_≡_, refl, sym, _∙_}
 use mathlib.Core.Logic.{_⊎_, inl, inr}
 use mathlib.Core.List.{List}
 use native.Mathlib.Numerals.{add-one}
 use native.Mathlib.Omega.{arith}
 use lib.Dec.{ltb, eqb}
-use lib.ListN.{length, getD, set, length-set, length-replicate}
+use lib.ListN.{length, getD}
 use lib.Seq.{getD-set-same, getD-set-other}
 use borrow.Author.Tests.{ltb-true, ltb-false, lt-ltb, le-ltb, eqb-true, eqb-false}
 use Rattle.lists.proofs.Tests.{by-cases}
-use Rattle.units.specs.Limits.{tasksLimit, clockLimit}
+use Rattle.units.specs.Limits.{tasksLimit}
 use Rattle.units.specs.Units.{ticks}
 use Rattle.planning.specs.declared.Line.{Line}
 use Rattle.planning.specs.Plan.{noLine}
@@ -20,12 +20,13 @@ use Rattle.run_lengths.specs.Work.{freshWork}
 use Rattle.fronts.specs.declared.Front.{Front}
 use Rattle.fronts.specs.Front.{noFront, frontOf}
 use Rattle.fronts.specs.Inner.{Frontable}
+use Rattle.front_rows.specs.Rows.{frontsIn, putFront}
+use Rattle.front_rows.proofs.Rows.{fronts-long, put-long, fronts-put}
 use Rattle.seats.proofs.Fresh.{writtenState, writtenWork}
 use Rattle.instants.specs.declared.Seen.{Seen}
 use Rattle.instants.specs.Seen.{leastLeft}
-use Rattle.instants.specs.Inner.{Addable}
-use Rattle.instants.proofs.Least.{least-most}
-use Rattle.rehearsal.specs.Parts.{comingAt, freshFronts}
+use Rattle.instants.proofs.Least.{least-whole, least-part}
+use Rattle.rehearsal.specs.Parts.{comingAt, freshFronts, coreAfter}
 
 -- when the next arrival comes: there is one before the stop, it is no earlier, or there is none
 module _ (xs : List ℕ) (k stop : ℕ) where
@@ -63,38 +64,44 @@ fresh-asked ln = record {
   few = omega arith;
 }
 
-module _ (ls : List Line) where
+-- task n's front, in turn
+abbrev freshAt : List Line → ℕ → Front
+freshAt ls n = frontOf (getD ls n noLine) freshState freshWork
+
+module _ (xs : List ℕ) where
   -- one task more
-  pub fresh-more : (n : ℕ) {xs : List Front} → xs ≡ freshFronts ls n → {x : Front} → x ≡ frontOf (getD ls n noLine) writtenState writtenWork
-      → set xs n x ≡ freshFronts ls (n + 1)
+  pub fresh-more : (ls : List Line) (n : ℕ) {ys : List ℕ} → ys ≡ freshFronts xs ls n → {x : Front} → x ≡ frontOf (getD ls n noLine) writtenState writtenWork
+      → putFront ys n x ≡ freshFronts xs ls (n + 1)
   unfolding freshFronts freshState freshWork
-  fresh-more n e q = rw (add-one n, ← e, q)
+  fresh-more ls n e q = rw (add-one n, ← e, q)
 
-  -- task n's front, in turn
-  abbrev freshAt : ℕ → Front
-  freshAt n = frontOf (getD ls n noLine) freshState freshWork
-
-  -- a place for each task
-  pub fresh-long : (n : ℕ) → length (freshFronts ls n) ≡ tasksLimit
+  -- as many numbers
+  pub fresh-rows : (ls : List Line) (n : ℕ) → length (freshFronts xs ls n) ≡ length xs
   unfolding freshFronts
-  fresh-long zero = length-replicate tasksLimit noFront
-  fresh-long (suc n) = length-set (freshFronts ls n) n (freshAt n) ∙ fresh-long n
+  fresh-rows ls zero = refl
+  fresh-rows ls (suc n) = put-long (freshFronts xs ls n) n (freshAt ls n) ∙ fresh-rows ls n
 
   -- each of the first n has the front of its line
-  pub fresh-front : (n i : ℕ) → i < n → n ≤ tasksLimit → getD (freshFronts ls n) i noFront ≡ frontOf (getD ls i noLine) freshState freshWork
+  pub fresh-front : length xs ≡ 7 * tasksLimit → (ls : List Line) (n i : ℕ) → i < n → n ≤ tasksLimit
+      → getD (frontsIn (freshFronts xs ls n)) i noFront ≡ frontOf (getD ls i noLine) freshState freshWork
   unfolding freshFronts
-  fresh-front zero i h l = absurd (omega arith)
-  fresh-front (suc n) i h l =
-      by-cases (eqb i n)
-      (λ e. rw (eqb-true i n e) (getD-set-same (freshFronts ls n) n (freshAt n) noFront (omega (arith, fresh-long n))))
+  fresh-front long ls zero i h l = absurd (omega arith)
+  fresh-front long ls (suc n) i h l =
+      let ys = freshFronts xs ls n in
+      let rows = fronts-put ys (fresh-rows ls n ∙ long) n (omega (arith, l)) (freshAt ls n) in
+      rw rows
+      (by-cases (eqb i n)
+      (λ e. rw (eqb-true i n e) (getD-set-same (frontsIn ys) n (freshAt ls n) noFront (omega (arith, l, fronts-long ys))))
       (λ e.
       let other = eqb-false i n e in
-      getD-set-other (freshFronts ls n) n i (freshAt n) noFront other ∙ fresh-front n i (omega (arith, other)) (omega arith))
+      getD-set-other (frontsIn ys) n i (freshAt ls n) noFront other ∙ fresh-front long ls n i (omega (arith, h, other)) (omega (arith, l))))
 
--- a jump of m ticks, the least that a choice still has to run, up to the next release time: it ends by then, and can be added
-module _ (ss : List Seen) (n time next : ℕ) (h : time ≤ next) {m : ℕ} (e : m ≡ leastLeft ss (next - time) n) where
-  pub jump-by : time + m ≤ next
-  jump-by = omega (arith, e, least-most ss (next - time) n)
+-- a jump of at most v ticks: all of them, where each choice has more left, or to the first that is done
+module _ (ss : List Seen) (v n : ℕ) {m : ℕ} (e : m ≡ leastLeft ss (v + 1) n) where
+  pub jump-whole : v < m → (v ≡ leastLeft ss v n) × (n ≡ coreAfter ss v n)
+  unfolding coreAfter
+  jump-whole l = let k = rw e at l in (sym (least-whole ss v n k), rw (lt-ltb v (leastLeft ss (v + 1) n) k))
 
-  pub jump-adds : (hs : List ℕ) → next ≤ clockLimit → Addable hs ss n 0 → Addable hs ss n m
-  jump-adds hs l a = record { few = a .few; small = omega (arith, jump-by); named = a .named; had = a .had }
+  pub jump-part : m ≤ v → (m ≡ leastLeft ss v n) × (0 ≡ coreAfter ss v n)
+  unfolding coreAfter
+  jump-part l = let k = rw e at l in (e ∙ sym (least-part ss v n k), rw (le-ltb v (leastLeft ss (v + 1) n) k))

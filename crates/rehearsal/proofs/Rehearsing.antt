@@ -13,7 +13,7 @@ use Rattle.lists.proofs.Tests.{and-left}
 use Rattle.writing.specs.Inner.{placeLimit}
 use Rattle.units.specs.Units.{ticks}
 use mathlib.Core.Logic.{_⊎_, inl, inr}
-use lib.ListN.{length, getD, set, replicate, getD-replicate}
+use lib.ListN.{length, getD, set, replicate, getD-replicate, length-set}
 use Rattle.units.specs.Limits.{coresLimit, tasksLimit, clockLimit}
 use Rattle.planning.specs.declared.Plan.{Plan}
 use Rattle.soundness.proofs.Facts.{ruled, cores-few, tasks-few, weight-small, shares-sum}
@@ -33,30 +33,39 @@ use Rattle.seats.specs.declared.Arrived.{Arrived}
 use Rattle.seats.specs.Seat.{seat, freshSeat, noSeat, arrivedOf, endedOf}
 use Rattle.seats.specs.Inner.{Arrivable, Endable}
 use Rattle.day_lines.specs.Lines.{eventText, eventsText}
-use Rattle.day_lines.specs.Window.{Windowed}
+use Rattle.day_window.specs.Window.{Windowed}
 use Rattle.day.specs.Desk.{lineOf, stateOf, workOf, boxOf, within, spansEnd, endsOn, takes, freshDesk as modelFresh, deskAt}
 use Rattle.day.specs.Desk as model
 use Rattle.day.proofs.Stands.{Stands, Resting, Ending, ended-next, state-here, work-here}
 use Rattle.day.proofs.At.{Fine, took-stands, state-here as arrived-state, work-here as arrived-work}
 use Rattle.day.proofs.Skip.{arrived-none}
-use Rattle.instants.specs.Inner.{Addable}
+use Rattle.goings.specs.Inner.{Addable}
 use Rattle.instants.proofs.Next.{next-some, next-most}
 use Rattle.instants.proofs.Scanned.{seen-named}
 use Rattle.day.proofs.Within.{on-arrivals, within-ending, within-stands}
 use Rattle.rehearsal.specs.declared.steps.Desk.{Desk}
 use Rattle.rehearsal.specs.Desk.{freshDesk}
-use Rattle.rehearsal.specs.Parts.{comingAt, doneBy, freshFronts}
-use Rattle.rehearsal.specs.Inner.{onCore, Rehearsable, Stood}
+use Rattle.rehearsal.specs.Parts.{comingAt, doneBy, freshFronts, coreAfter}
+use Rattle.rehearsal.specs.Inner.{onCore, Rehearsable, Blank, Stood}
 use Rattle.rehearsal.proofs.Here.{Holds, Stage, still, finished, small, few, arrived, coming-now, ticks-some, jumped-by}
-use Rattle.rehearsal.proofs.Parted.{coming-cases, fresh-front, fresh-long}
-use Rattle.day_lines.proofs.Windows.{none, then, recast}
+use Rattle.rehearsal.proofs.Parted.{coming-cases, fresh-front, fresh-rows}
+use Rattle.day_window.proofs.Windows.{none, then, recast}
 use Rattle.day_lines.proofs.Events.{events-append, events-more}
 use Rattle.day_lines.specs.declared.Event.the-variants.{Finished, Refused}
-use Rattle.lists.specs.Lists.{zeros}
-use Rattle.instants.specs.declared.Going.{Going}
+use Rattle.goings.specs.declared.Going.{Going}
 use Rattle.instants.specs.declared.Seen.{Seen}
-use Rattle.instants.specs.Seen.{seenOf, nextOf, leastLeft, ranBy as ranOf}
-use Rattle.instants.specs.Going.{noGoing, goingsOf}
+use Rattle.instants.specs.Seen.{idle, seenOf, nextOf, leastLeft}
+use Rattle.goings.specs.Going.{noGoing, ranBy}
+use Rattle.instants.specs.Goings.{goingsOf, goneOn}
+use Rattle.instants.proofs.Least.{least-most}
+use Rattle.instants.proofs.GoingsAt.{goings-at as goings-at-each}
+use Rattle.instants.proofs.GoneOn.{gone-long, gone-are}
+use Rattle.goings.specs.Rows.{goingAt, goingsIn}
+use Rattle.goings.proofs.Rows.{goings-long, goings-at, goings-none}
+use Rattle.goings.proofs.Ran.{ran-long}
+use Rattle.front_rows.specs.Rows.{frontAt, frontsIn, putFront}
+use Rattle.front_rows.proofs.Rows.{fronts-long, fronts-at, put-long, fronts-put}
+use Rattle.day.proofs.Looked.{goes-task}
 
 -- what is asked is what the laws ask
 pub fine-of : {pl : Plan} {xs : List ℕ} {stop : ℕ} → Rehearsable pl xs stop → Fine pl xs
@@ -74,9 +83,12 @@ fine-of {pl} {xs} q = record {
 pub some-core : {pl : Plan} {xs : List ℕ} {stop : ℕ} → Rehearsable pl xs stop → 0 < pl .cores
 some-core {pl} q = numbers pl (ruled pl (q .sound) .numbers) .cores-some
 
-pub record Rehearsing (pl : Plan) (xs : List ℕ) (stop skip : ℕ) (before now : List ℕ) (d : Desk) : Type 0 where
+pub record Rehearsing (pl : Plan) (xs : List ℕ) (stop skip : ℕ) (before now fs hs gs : List ℕ) (d : Desk) : Type 0 where
   pub stage : Stage pl xs stop (d .time) (d .next) (d .core)
-  pub holds : Holds pl (within pl xs (d .time) (d .next) (d .core)) (d .seats) (d .fronts) (d .had) (d .going)
+  pub holds : Holds pl (within pl xs (d .time) (d .next) (d .core)) (d .seats) (frontsIn fs) hs (goingsIn gs)
+  pub fronts : length fs ≡ 7 * tasksLimit
+  pub long : length hs ≡ tasksLimit
+  pub wide : length gs ≡ 3 * coresLimit
   pub cores : d .cores ≡ pl .cores
   pub wrote : Windowed before skip 0 (eventsText (within pl xs (d .time) (d .next) (d .core) .said)) now (d .end)
   pub near : d .end ≤ 180 * (33 * d .time + d .next + d .core)
@@ -144,20 +156,20 @@ can-arrive pl xs t k d upto f s rest l =
     }
 
 -- nothing yet
-fresh-holds : (pl : Plan) (xs : List ℕ) → pl .count ≤ tasksLimit
-    → Holds pl (deskAt pl xs 0) (replicate tasksLimit freshSeat) (freshFronts (pl .lines) (pl .count)) (zeros tasksLimit) (replicate coresLimit noGoing)
+fresh-holds : (pl : Plan) (xs : List ℕ) → pl .count ≤ tasksLimit → {fs hs gs : List ℕ} → Blank fs hs gs
+    → Holds pl (deskAt pl xs 0) (replicate tasksLimit freshSeat) (frontsIn (freshFronts fs (pl .lines) (pl .count))) hs (goingsIn gs)
 unfolding deskAt modelFresh freshSeat
-fresh-holds pl xs few = record {
+fresh-holds pl xs few {fs} b = record {
   seats = refl;
-  fronts = fresh-long (pl .lines) (pl .count);
+  fronts = fronts-long (freshFronts fs (pl .lines) (pl .count));
   seated = λ i l.
       getD-replicate tasksLimit i (seat freshState freshWork) noSeat l
       ∙ rw (getD-replicate tasksLimit i freshState noState l, getD-replicate tasksLimit i freshWork noWork l) refl;
   front = λ i l.
-      fresh-front (pl .lines) (pl .count) i l few
+      fresh-front fs (b .fronts) (pl .lines) (pl .count) i l few
       ∙ rw (getD-replicate tasksLimit i freshState noState (omega (arith, l, few)), getD-replicate tasksLimit i freshWork noWork (omega (arith, l, few))) refl;
-  had = refl;
-  going = refl;
+  had = b .had;
+  going = ap goingsIn (b .goings) ∙ goings-none;
 }
 
 -- nothing said
@@ -165,9 +177,10 @@ fresh-said : (pl : Plan) (xs : List ℕ) → deskAt pl xs 0 .said ≡ []
 unfolding deskAt modelFresh
 fresh-said pl xs = refl
 
-pub begun : (pl : Plan) (xs : List ℕ) (stop skip : ℕ) (before : List ℕ) → Rehearsable pl xs stop → Rehearsing pl xs stop skip before before (freshDesk pl)
+pub begun : (pl : Plan) (xs : List ℕ) (stop skip : ℕ) (before : List ℕ) → Rehearsable pl xs stop → {fs hs gs : List ℕ} → Blank fs hs gs
+    → Rehearsing pl xs stop skip before before (freshFronts fs (pl .lines) (pl .count)) hs gs (freshDesk (pl .cores))
 unfolding freshDesk
-begun pl xs stop skip before q = record {
+begun pl xs stop skip before q {fs} b = record {
   stage = record {
     time = omega arith;
     core = omega arith;
@@ -178,14 +191,17 @@ begun pl xs stop skip before q = record {
     ended = λ z j b. absurd (omega (arith, b));
     coming = λ j a b. omega arith;
   };
-  holds = rw (on-arrivals pl xs 0 0 (pl .cores) (omega arith)) (fresh-holds pl xs (tasks-few pl (q .sound)));
+  holds = rw (on-arrivals pl xs 0 0 (pl .cores) (omega arith)) (fresh-holds pl xs (tasks-few pl (q .sound)) b);
+  fronts = fresh-rows fs (pl .lines) (pl .count) ∙ b .fronts;
+  long = rw (b .had) refl;
+  wide = rw (b .goings) refl;
   cores = refl;
   wrote = rw (on-arrivals pl xs 0 0 (pl .cores) (omega arith), fresh-said pl xs) (none before skip 0);
   near = omega arith;
 }
 
-module _ {pl : Plan} {xs : List ℕ} {stop skip : ℕ} {before now : List ℕ} {d : Desk} (q : Rehearsable pl xs stop)
-    (h : Rehearsing pl xs stop skip before now d) where
+module _ {pl : Plan} {xs : List ℕ} {stop skip : ℕ} {before now fs hs gs : List ℕ} {d : Desk} (q : Rehearsable pl xs stop)
+    (h : Rehearsing pl xs stop skip before now fs hs gs d) where
   -- the model's desk here
   abbrev here : model.Desk
   here = within pl xs (d .time) (d .next) (d .core)
@@ -207,11 +223,24 @@ module _ {pl : Plan} {xs : List ℕ} {stop skip : ℕ} {before now : List ℕ} {
     inside : d .core < pl .cores
     inside = omega (arith, l, h .cores)
 
+    pub core-in : d .core < coresLimit
+    core-in = omega (arith, inside, cores-few pl (q .sound))
+
     abbrev run : Going
-    run = getD (d .going) (d .core) noGoing
+    run = goingAt gs (d .core)
+
+    -- as the model has it
+    run-is : getD (goingsIn gs) (d .core) noGoing ≡ run
+    run-is = goings-at gs (d .core) core-in
 
     abbrev i : ℕ
     i = run .task - 1
+
+    -- a task's place
+    small-in : (n : ℕ) → run .task ≡ suc n → n < tasksLimit
+    small-in n e =
+        small pl xs (fine-of q) stop (q .upto) (d .time) (d .next) (d .core) (h .stage) (d .seats) (frontsIn fs) hs (goingsIn gs) (h .holds) inside n
+        (ap (λ (g : Going). g .task) run-is ∙ e)
 
     -- its task's place
     pub place-small : i < tasksLimit
@@ -219,20 +248,19 @@ module _ {pl : Plan} {xs : List ℕ} {stop skip : ℕ} {before now : List ℕ} {
       where
         go : (n : ℕ) → run .task ≡ n → i < tasksLimit
         go zero e = omega (arith, e)
-        go (suc n) e =
-            let k = small pl xs (fine-of q) stop (q .upto) (d .time) (d .next) (d .core) (h .stage) (d .seats) (d .fronts) (d .had) (d .going) (h .holds)
-            inside n e in
-            omega (arith, e, k)
+        go (suc n) e = omega (arith, e, small-in n e)
 
     abbrev isDone : Bool
-    isDone = doneBy (run .task) (getD (d .fronts) i noFront .length) (getD (d .had) i 0)
+    isDone = doneBy (run .task) (frontAt fs i .length) (getD hs i 0)
+
+    -- as the model has it
+    done-is : {b : Bool} → isDone ≡ b
+        → let g = getD (goingsIn gs) (d .core) noGoing in doneBy (g .task) (getD (frontsIn fs) (g .task - 1) noFront .length) (getD hs (g .task - 1) 0) ≡ b
+    done-is z = rw (run-is, fronts-at fs i place-small) z
 
     -- it is not: the next core
-    pub still-on : isDone ≡ false → Rehearsing pl xs stop skip before now (record {
+    pub still-on : isDone ≡ false → Rehearsing pl xs stop skip before now fs hs gs (record {
       seats = d .seats;
-      fronts = d .fronts;
-      had = d .had;
-      going = d .going;
       time = d .time;
       next = d .next;
       core = d .core + 1;
@@ -240,11 +268,14 @@ module _ {pl : Plan} {xs : List ℕ} {stop skip : ℕ} {before now : List ℕ} {
       end = d .end;
     })
     still-on z =
-        let s = still pl xs (fine-of q) stop (q .upto) (d .time) (d .next) (d .core) (h .stage) (d .seats) (d .fronts) (d .had) (d .going)
-        (h .holds) inside z in
+        let s = still pl xs (fine-of q) stop (q .upto) (d .time) (d .next) (d .core) (h .stage) (d .seats) (frontsIn fs) hs (goingsIn gs)
+        (h .holds) inside (done-is z) in
         rw (add-one (d .core)) (record {
           stage = s .0;
           holds = s .1;
+          fronts = h .fronts;
+          long = h .long;
+          wide = h .wide;
           cores = h .cores;
           wrote = rw (s .2) (h .wrote);
           near = omega (arith, h .near);
@@ -253,29 +284,24 @@ module _ {pl : Plan} {xs : List ℕ} {stop skip : ℕ} {before now : List ℕ} {
     module _ (z : isDone ≡ true) where
       -- its task
       pub task-is : run .task ≡ suc i
-      task-is = let k = ltb-true 0 (run .task) (and-left (ltb 0 (run .task)) (eqb (getD (d .had) i 0) (getD (d .fronts) i noFront .length)) z) in
-          omega (arith, k)
+      task-is = let k = ltb-true 0 (run .task) (and-left (ltb 0 (run .task)) (eqb (getD hs i 0) (frontAt fs i .length)) z) in omega (arith, k)
 
-      pub task-small : i < tasksLimit
-      task-small = small pl xs (fine-of q) stop (q .upto) (d .time) (d .next) (d .core) (h .stage) (d .seats) (d .fronts) (d .had) (d .going)
-          (h .holds) inside i task-is
+      has-task : getD (goingsIn gs) (d .core) noGoing .task ≡ suc i
+      has-task = ap (λ (g : Going). g .task) run-is ∙ task-is
 
       pub endable : Endable (lineOf pl i) (getD (d .seats) i noSeat .state) (getD (d .seats) i noSeat .work) (d .time)
       endable =
           let e = within-ending pl xs (fine-of q) (d .time) (d .next) (d .core) (h .stage .begun inside) time-in inside in
-          rw (h .holds .seated i task-small) (can-end pl (d .time) (d .core) here time-in e inside i
-          (ap (λ (gs : List Going). getD gs (d .core) noGoing .task) (sym (h .holds .going)) ∙ task-is))
+          rw (h .holds .seated i place-small) (can-end pl (d .time) (d .core) here time-in e inside i
+          (ap (λ (ys : List Going). getD ys (d .core) noGoing .task) (sym (h .holds .going)) ∙ has-task))
 
       -- it is: it ends
       pub ended-on : {x : Ended} → x ≡ endedOf (lineOf pl i) (getD (d .seats) i noSeat .state) (getD (d .seats) i noSeat .work) (d .time)
           → {now′ : List ℕ} {end′ : ℕ}
           → Windowed now skip (d .end) (eventText (Finished (onCore (d .core + 1) run) (ticks (d .time)) (x .late))) now′ end′
           → end′ ≤ d .end + 180
-          → Rehearsing pl xs stop skip before now′ (record {
+          → Rehearsing pl xs stop skip before now′ (putFront fs i (x .front)) (set hs i 0) gs (record {
             seats = set (d .seats) i (x .seat);
-            fronts = set (d .fronts) i (x .front);
-            had = set (d .had) i 0;
-            going = d .going;
             time = d .time;
             next = d .next;
             core = d .core + 1;
@@ -283,14 +309,18 @@ module _ {pl : Plan} {xs : List ℕ} {stop skip : ℕ} {before now : List ℕ} {
             end = end′;
           })
       ended-on {x} e {now′} {end′} w b =
-          let s = finished pl xs (fine-of q) stop (q .upto) (d .time) (d .next) (d .core) (h .stage) (d .seats) (d .fronts) (d .had) (d .going) (h .holds)
-          inside i task-is z x e in
+          let s = finished pl xs (fine-of q) stop (q .upto) (d .time) (d .next) (d .core) (h .stage) (d .seats) (frontsIn fs) hs (goingsIn gs) (h .holds)
+          inside i has-task (done-is z) x e in
           let v = rw (add-one (d .core)) at w in
+          let u = rw run-is at (s .2) in
           rw (add-one (d .core)) (record {
             stage = s .0;
-            holds = s .1;
+            holds = rw (fronts-put fs (h .fronts) i place-small (x .front)) (s .1);
+            fronts = put-long fs i (x .front) ∙ h .fronts;
+            long = length-set hs i 0 ∙ h .long;
+            wide = h .wide;
             cores = h .cores;
-            wrote = recast (sym (events-more (here .said) _) ∙ ap eventsText (sym (s .2))) (then (h .wrote) v);
+            wrote = recast (sym (events-more (here .said) _) ∙ ap eventsText (sym u)) (then (h .wrote) v);
             near = omega (arith, h .near, b);
           })
 
@@ -320,7 +350,7 @@ module _ {pl : Plan} {xs : List ℕ} {stop skip : ℕ} {before now : List ℕ} {
       from-one = q .fine .task-from (d .next) coming-here
 
       pub seat-small : j < tasksLimit
-      seat-small = few pl xs (fine-of q) stop (q .upto) (d .time) (d .next) (d .core) (h .stage) (d .seats) (d .fronts) (d .had) (d .going)
+      seat-small = few pl xs (fine-of q) stop (q .upto) (d .time) (d .next) (d .core) (h .stage) (d .seats) (frontsIn fs) hs (goingsIn gs)
           (h .holds) past early
           coming-here (comes .1)
 
@@ -334,11 +364,8 @@ module _ {pl : Plan} {xs : List ℕ} {stop skip : ℕ} {before now : List ℕ} {
           → {now′ : List ℕ} {end′ : ℕ}
           → Windowed now skip (d .end) (eventsText (cond (eqb (x .refusal) 0) [] (Refused (x .refusal) (d .next + 1) (j + 1) (ticks (d .time)) ∷ []))) now′ end′
           → end′ ≤ d .end + 180
-          → Rehearsing pl xs stop skip before now′ (record {
+          → Rehearsing pl xs stop skip before now′ (putFront fs j (x .front)) hs gs (record {
             seats = set (d .seats) j (x .seat);
-            fronts = set (d .fronts) j (x .front);
-            had = d .had;
-            going = d .going;
             time = d .time;
             next = d .next + 1;
             core = d .core;
@@ -346,14 +373,17 @@ module _ {pl : Plan} {xs : List ℕ} {stop skip : ℕ} {before now : List ℕ} {
             end = end′;
           })
       arrived-on {x} e {now′} {end′} w b =
-          let s = arrived pl xs (fine-of q) stop (q .upto) (d .time) (d .next) (d .core) (h .stage) (d .seats) (d .fronts) (d .had) (d .going)
+          let s = arrived pl xs (fine-of q) stop (q .upto) (d .time) (d .next) (d .core) (h .stage) (d .seats) (frontsIn fs) hs (goingsIn gs)
           (h .holds) past early
           coming-here (comes .1) x e in
           let back : j + 1 ≡ arrivalTask xs (d .next) = omega (arith, from-one) in
           let v = rw (add-one (d .next), back) at w in
           rw (add-one (d .next)) (record {
             stage = s .0;
-            holds = s .1;
+            holds = rw (fronts-put fs (h .fronts) j seat-small (x .front)) (s .1);
+            fronts = put-long fs j (x .front) ∙ h .fronts;
+            long = h .long;
+            wide = h .wide;
             cores = h .cores;
             wrote = recast (sym (events-append (here .said) _) ∙ ap eventsText (sym (s .2))) (then (h .wrote) v);
             near = omega (arith, h .near, b);
@@ -364,102 +394,129 @@ module _ {pl : Plan} {xs : List ℕ} {stop skip : ℕ} {before now : List ℕ} {
       abbrev v : ℕ
       v = comingAt xs (d .next) stop
 
-      -- each core's choice, the next instant at which something may happen, and the ticks until then
+      -- each core's choice, the next instant at which something may happen, the ticks until then, and the next core
       abbrev chosen : List Seen
-      chosen = seenOf (d .fronts) (d .had) (d .time) (pl .count)
+      chosen = seenOf (frontsIn fs) hs (d .time) (pl .count)
 
       abbrev until : ℕ
-      until = nextOf (d .fronts) (d .time) v (pl .count)
+      until = nextOf (frontsIn fs) (d .time) v (pl .count)
 
       abbrev on : ℕ
       on = leastLeft chosen (until - d .time) (pl .cores)
 
-      law : Stage pl xs stop (d .time + on) (d .next) 0
-          × Holds pl (within pl xs (d .time + on) (d .next) 0) (d .seats) (d .fronts) (ranOf chosen on (d .had) (pl .cores))
-          (goingsOf (d .going) chosen (d .time) (pl .cores))
-          × (within pl xs (d .time + on) (d .next) 0 .said
-          ≡ here .said ++ spansEnd (d .going) (goingsOf (d .going) chosen (d .time) (pl .cores)) (d .time) (pl .cores))
+      abbrev coreOn : ℕ
+      coreOn = coreAfter chosen (until - d .time) (pl .cores)
+
+      -- the runs that have the cores then
+      abbrev goingOn : List Going
+      goingOn = goingsOf (goingsIn gs) chosen (d .time) (pl .cores)
+
+      law : Stage pl xs stop (d .time + on) (d .next) coreOn
+          × Holds pl (within pl xs (d .time + on) (d .next) coreOn) (d .seats) (frontsIn fs) (ranBy goingOn on hs (pl .cores)) goingOn
+          × (within pl xs (d .time + on) (d .next) coreOn .said ≡ here .said ++ spansEnd (goingsIn gs) goingOn (d .time) (pl .cores))
       law =
-          jumped-by pl xs (fine-of q) (q .fine .rising) stop (q .upto) (some-core q) (d .time) (d .next) (d .core) (h .stage) (d .seats) (d .fronts) (d .had)
-          (d .going) (h .holds) past early now-not
+          jumped-by pl xs (fine-of q) (q .fine .rising) stop (q .upto) (some-core q) (d .time) (d .next) (d .core) (h .stage) (d .seats) (frontsIn fs) hs
+          (goingsIn gs) (h .holds) past early now-not
 
-      pub on-some : 0 < on
+      on-some : 0 < on
       on-some =
-          ticks-some pl xs (fine-of q) (q .fine .rising) stop (q .upto) (some-core q) (d .time) (d .next) (d .core) (h .stage) (d .seats) (d .fronts) (d .had)
-          (d .going) (h .holds) past early now-not
+          ticks-some pl xs (fine-of q) (q .fine .rising) stop (q .upto) (some-core q) (d .time) (d .next) (d .core) (h .stage) (d .seats) (frontsIn fs) hs
+          (goingsIn gs) (h .holds) past early now-not
 
-      pub coming-in : (d .time < v) × (v ≤ stop)
+      pub on-by : 0 < leastLeft chosen (until - d .time) (d .cores)
+      on-by = rw (h .cores) on-some
+
+      coming-in : (d .time < v) × (v ≤ stop)
       coming-in =
-          let c = coming-now pl xs (fine-of q) (q .fine .rising) stop (q .upto) (some-core q) (d .time) (d .next) (d .core) (h .stage) (d .seats) (d .fronts)
-          (d .had) (d .going) (h .holds) past early now-not in
+          let c = coming-now pl xs (fine-of q) (q .fine .rising) stop (q .upto) (some-core q) (d .time) (d .next) (d .core) (h .stage) (d .seats)
+          (frontsIn fs) hs (goingsIn gs) (h .holds) past early now-not in
           (c .0, c .1)
 
       -- what is asked of a jump
       pub until-in : (d .time ≤ until) × (until ≤ clockLimit)
       until-in =
-          let some = next-some (d .fronts) (d .time) v (pl .count) (coming-in .0) in
-          let most = next-most (d .fronts) (d .time) v (pl .count) in
+          let some = next-some (frontsIn fs) (d .time) v (pl .count) (coming-in .0) in
+          let most = next-most (frontsIn fs) (d .time) v (pl .count) in
           (omega (arith, some), omega (arith, most, coming-in .1, q .upto))
 
-      pub addable : Addable (d .had) chosen (pl .cores) 0
-      addable = record {
-        few = cores-few pl (q .sound);
-        small = omega arith;
-        named = λ p. omega (arith, seen-named (d .fronts) (d .had) (d .time) (pl .count) p, tasks-few pl (q .sound));
-        had = λ i. had-in i;
-      }
+      -- it is not beyond the stop
+      pub on-most : leastLeft chosen (until - d .time) (d .cores) ≤ clockLimit
+      on-most = omega (arith, least-most chosen (until - d .time) (d .cores), until-in .1)
+
+      had-in : (i : ℕ) → getD hs i 0 ≤ clockLimit
+      had-in i = rw (h .holds .had) (go (ltb i (pl .count)) refl)
         where
-          had-in : (i : ℕ) → getD (d .had) i 0 ≤ clockLimit
-          had-in i = rw (h .holds .had) (go (ltb i (pl .count)) refl)
+          at : Stands pl (d .time) here × Resting pl (d .time) here
+          at = within-stands pl xs (fine-of q) (d .time) (d .next) (d .core) time-in past (h .stage .next)
+
+          go : (b : Bool) → ltb i (pl .count) ≡ b → model.hadOf here i ≤ clockLimit
+          go false z = omega (arith, at .0 .nobody i (ltb-false i (pl .count) z))
+          go true z = live-or (ltb-true i (pl .count) z) (ℕ-discrete (stateOf here i .live) 0)
             where
-              at : Stands pl (d .time) here × Resting pl (d .time) here
-              at = within-stands pl xs (fine-of q) (d .time) (d .next) (d .core) time-in past (h .stage .next)
+              live-or : i < pl .count → Dec (stateOf here i .live ≡ 0) → model.hadOf here i ≤ clockLimit
+              live-or l (yes e) = omega (arith, at .1 i l .none e)
+              live-or l (no e) =
+                  let some : 0 < stateOf here i .live = omega (arith, e) in
+                  omega (arith, at .1 i l .within some, at .0 .each i l .fits 0 some)
 
-              go : (b : Bool) → ltb i (pl .count) ≡ b → model.hadOf here i ≤ clockLimit
-              go false z = omega (arith, at .0 .nobody i (ltb-false i (pl .count) z))
-              go true z = live-or (ltb-true i (pl .count) z) (ℕ-discrete (stateOf here i .live) 0)
-                where
-                  live-or : i < pl .count → Dec (stateOf here i .live ≡ 0) → model.hadOf here i ≤ clockLimit
-                  live-or l (yes e) = omega (arith, at .1 i l .none e)
-                  live-or l (no e) =
-                      let some : 0 < stateOf here i .live = omega (arith, e) in
-                      omega (arith, at .1 i l .within some, at .0 .each i l .fits 0 some)
+      -- what the code has in place of them
+      module _ {gs′ : List ℕ} (gone : gs′ ≡ goneOn gs chosen (d .time) (d .cores)) where
+        going-is : goingsIn gs′ ≡ goingOn
+        going-is = rw (gone, h .cores) (gone-are gs chosen (d .time) (h .wide) (pl .cores) (cores-few pl (q .sound)))
 
-      -- the same by the code's count of cores
-      pub addable-by : Addable (d .had) chosen (d .cores) 0
-      addable-by = rw (h .cores) addable
+        wide-then : length gs′ ≡ 3 * coresLimit
+        wide-then = rw gone (gone-long gs chosen (d .time) (d .cores)) ∙ h .wide
 
-      pub on-by : 0 < leastLeft chosen (until - d .time) (d .cores)
-      on-by = rw (h .cores) on-some
+        -- the task that has a core then is its choice
+        task-on : (p : ℕ) → p < pl .cores → goingAt gs′ p .task ≡ getD chosen p idle .task
+        task-on p l =
+            let few = cores-few pl (q .sound) in
+            let e = goings-at-each (goingsIn gs) chosen (d .time) (pl .cores) p l (omega (arith, goings-long gs, few)) in
+            ap (λ (g : Going). g .task) (sym (goings-at gs′ p (omega (arith, l, few))) ∙ ap (λ (ys : List Going). getD ys p noGoing) going-is ∙ e)
+            ∙ goes-task (getD (goingsIn gs) p noGoing) (getD chosen p idle .task) (getD chosen p idle .run) (d .time)
 
-      pub jumped-next : {gs : List Going} {hs : List ℕ} {t : ℕ}
-          → gs ≡ goingsOf (d .going) chosen (d .time) (d .cores) → hs ≡ ranOf chosen (leastLeft chosen (until - d .time) (d .cores)) (d .had) (d .cores)
-          → t ≡ d .time + leastLeft chosen (until - d .time) (d .cores)
-          → {now′ : List ℕ} {end′ : ℕ} → Windowed now skip (d .end) (eventsText (spansEnd (d .going) gs (d .time) (d .cores))) now′ end′
-          → end′ ≤ d .end + 180 * d .cores
-          → Rehearsing pl xs stop skip before now′ (record {
-            seats = d .seats;
-            fronts = d .fronts;
-            had = hs;
-            going = gs;
-            time = t;
-            next = d .next;
-            core = 0;
-            cores = d .cores;
-            end = end′;
-          })
-      jumped-next {gs} {hs} {t} a b c {now′} {end′} w m =
-          let g : gs ≡ goingsOf (d .going) chosen (d .time) (pl .cores) = a ∙ rw (h .cores) refl in
-          let r : hs ≡ ranOf chosen on (d .had) (pl .cores) = b ∙ rw (h .cores) refl in
-          let e : t ≡ d .time + on = c ∙ rw (h .cores) refl in
-          let u = rw (h .cores, g) at w in
-          rw (g, r, e) (record {
-            stage = law .0;
-            holds = law .1;
-            cores = h .cores;
-            wrote = recast (sym (events-append (here .said) _) ∙ ap eventsText (sym (law .2))) (then (h .wrote) u);
-            near = omega (arith, h .near, m, h .cores, cores-few pl (q .sound), on-some, over);
-          })
+        named : (p : ℕ) → p < pl .cores → goingAt gs′ p .task ≤ tasksLimit
+        named p l = omega (arith, task-on p l, seen-named (frontsIn fs) hs (d .time) (pl .count) p, tasks-few pl (q .sound))
+
+        pub addable : Addable hs gs′ (d .cores) (leastLeft chosen (until - d .time) (d .cores))
+        addable = record {
+          few = omega (arith, h .cores, cores-few pl (q .sound));
+          small = on-most;
+          wide = wide-then;
+          long = h .long;
+          named = λ p l. named p (omega (arith, l, h .cores));
+          had = had-in;
+        }
+
+        pub jumped-next : {m c : ℕ} {hs′ : List ℕ} → m ≡ leastLeft chosen (until - d .time) (d .cores) → c ≡ coreAfter chosen (until - d .time) (d .cores)
+            → hs′ ≡ ranBy (goingsIn gs′) m hs (d .cores)
+            → {now′ : List ℕ} {end′ : ℕ}
+            → let ys = goingsIn gs in
+            Windowed now skip (d .end) (eventsText (spansEnd ys (goingsOf ys chosen (d .time) (d .cores)) (d .time) (d .cores))) now′ end′
+            → end′ ≤ d .end + 180 * d .cores
+            → Rehearsing pl xs stop skip before now′ fs hs′ gs′ (record {
+              seats = d .seats;
+              time = d .time + m;
+              next = d .next;
+              core = c;
+              cores = d .cores;
+              end = end′;
+            })
+        jumped-next {m} {c} {hs′} a b r {now′} {end′} w near =
+            let e : m ≡ on = a ∙ rw (h .cores) refl in
+            let k : c ≡ coreOn = b ∙ rw (h .cores) refl in
+            let o : hs′ ≡ ranBy goingOn on hs (pl .cores) = r ∙ rw (h .cores, e, going-is) refl in
+            let u = rw (h .cores) at w in
+            rw (e, k) (record {
+              stage = law .0;
+              holds = rw (o, going-is) (law .1);
+              fronts = h .fronts;
+              long = rw r (ran-long (goingsIn gs′) m hs (d .cores)) ∙ h .long;
+              wide = wide-then;
+              cores = h .cores;
+              wrote = recast (sym (events-append (here .said) _) ∙ ap eventsText (sym (law .2))) (then (h .wrote) u);
+              near = omega (arith, h .near, near, h .cores, cores-few pl (q .sound), on-some, over);
+            })
 
   -- the stop is reached
   module _ (over : d .cores ≤ d .core) (late : stop ≤ d .time) where
@@ -470,8 +527,8 @@ module _ {pl : Plan} {xs : List ℕ} {stop skip : ℕ} {before now : List ℕ} {
         ∙ arrived-none pl xs (d .time) (d .next) (deskAt pl xs (d .time)) (λ j l z. omega (arith, h .stage .ended e j l, z))
         ∙ ap (deskAt pl xs) e
 
-    pub stood : Stood pl xs stop d
-    stood = let o = rw at-stop at (h .holds) in record { seated = o .seated; had = o .had; going = o .going }
+    pub stood : Stood pl xs stop d hs gs
+    stood = let o = rw at-stop at (h .holds) in record { seated = o .seated; had = o .had; going = o .going; long = h .long; wide = h .wide }
 
     pub written : Windowed before skip 0 (eventsText (deskAt pl xs stop .said)) now (d .end)
     written = rw at-stop at (h .wrote)

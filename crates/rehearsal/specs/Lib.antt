@@ -1,4 +1,3 @@
 pub mod Parts
 pub mod Desk
 pub mod Inner
-pub mod Left

@@ -1,25 +1,20 @@
 // Parts of a rehearsal's steps.
+use front_rows::store_front;
 use fronts::Front;
 use fronts::front_of;
-use instants::Going;
+use goings::Going;
 use instants::Instant;
-use instants::goings;
 use instants::least_left;
-use instants::ran_by;
 use planning::Plan;
 use run_lengths::Work;
 use task_state::State;
-use units::limits::CORES;
-use units::limits::TASKS;
 use units::ticks::Ticks;
 ghost use mathlib.Core.Path.{_≡_};
 ghost use Prim.Native.Nat.{_+_, _-_, _≤_};
-ghost use Rattle.units.specs.Limits.{tasksLimit, clockLimit};
+ghost use Rattle.units.specs.Limits.{coresLimit, tasksLimit, clockLimit};
 ghost use Rattle.units.specs.Units.{ticks};
-ghost use Rattle.instants.specs.Seen.{leastLeft, ranBy};
-ghost use Rattle.instants.specs.Going.{goingsOf};
-ghost use Rattle.instants.specs.Inner.{Addable};
-ghost use Rattle.rehearsal.specs.Parts.{comingAt, doneBy, freshFronts};
+ghost use Rattle.instants.specs.Seen.{leastLeft};
+ghost use Rattle.rehearsal.specs.Parts.{comingAt, doneBy, freshFronts, coreAfter};
 
 // When the next arrival comes, if it comes before the stop; else the stop.
 pub(crate) fn coming_at(arrivals: &[u64], next: usize, stop: Ticks) -> Ticks
@@ -49,50 +44,43 @@ pub(crate) fn place_of(task: usize) -> usize
 }
 
 // The fronts of tasks that have had no run.
-pub(crate) fn fresh_fronts(plan: Plan) -> [Front; TASKS]
+pub(crate) fn fresh_fronts(plan: Plan, fronts: &mut [u64])
     requires { ⌜ plan .count ≤ tasksLimit ⌝ }
-    ensures { λ r. ⌜ r ≡ freshFronts (plan .lines) (plan .count) ⌝ }
+    ensures { λ _. ⌜ now (fronts .exit) ≡ freshFronts (now (fronts .entry)) (plan .lines) (plan .count) ⌝ }
 {
-    let mut fronts = [Front::NONE; TASKS];
     let mut i: usize = 0;
     while i < plan.count {
         let line = plan.lines[i];
-        fronts[i] = front_of(line, State::FRESH, Work::FRESH);
+        let front = front_of(line, State::FRESH, Work::FRESH);
+        store_front(fronts, i, front);
         i += 1;
     }
-    fronts
 }
 
-// After a jump: the runs that have the cores, the ticks had, and the instant.
+// After a jump: the instant, and the next core whose run may be done.
 pub(crate) struct Jump {
-    pub going: [Going; CORES],
-    pub had: [u64; TASKS],
-    pub time: Ticks,
+    pub more: u64,
+    pub core: usize,
 }
 
-// From an instant on, as long as nothing happens.
-pub(crate) fn jump_from(
-    going: [Going; CORES],
-    had: [u64; TASKS],
-    instant: Instant,
-    cores: usize,
-    time: Ticks,
-) -> Jump
-    requires { ⌜ (time .0 ≤ instant .next .0) × (instant .next .0 ≤ clockLimit) × Addable had (instant .seen) cores 0 ⌝ }
-    ensures { λ r. ⌜ r .going ≡ goingsOf going (instant .seen) (time .0) cores ⌝ }
-    ensures { λ r. ⌜ r .had ≡ ranBy (instant .seen) (leastLeft (instant .seen) (instant .next .0 - time .0) cores) had cores ⌝ }
-    ensures { λ r. ⌜ r .time ≡ ticks (time .0 + leastLeft (instant .seen) (instant .next .0 - time .0) cores) ⌝ }
+// From an instant on, as long as nothing happens; where no choice is done then, the cores are through.
+pub(crate) fn jump_from(instant: Instant, cores: usize, time: Ticks) -> Jump
+    requires { ⌜ (cores ≤ coresLimit) × (time .0 ≤ instant .next .0) × (instant .next .0 ≤ clockLimit) ⌝ }
+    ensures { λ r. ⌜ r .more ≡ leastLeft (instant .seen) (instant .next .0 - time .0) cores ⌝ }
+    ensures { λ r. ⌜ r .core ≡ coreAfter (instant .seen) (instant .next .0 - time .0) cores ⌝ }
 {
-    let seen = instant.seen;
     let next = instant.next;
+    let seen = instant.seen;
     let most = next.0 - time.0;
-    let more = least_left(seen, cores, most);
-    let after = goings(going, seen, cores, time);
-    let ran = ran_by(had, seen, cores, more);
-    let then = time.0 + more;
+    let least = least_left(seen, cores, most + 1);
+    if most < least {
+        return Jump {
+            more: most,
+            core: cores,
+        };
+    }
     Jump {
-        going: after,
-        had: ran,
-        time: Ticks(then),
+        more: least,
+        core: 0,
     }
 }

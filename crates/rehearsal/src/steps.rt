@@ -6,36 +6,33 @@ use crate::parts::jump_from;
 use crate::parts::place_of;
 use day_lines::Event;
 use day_lines::Ran;
-use day_lines::within::put_within;
+use day_window::put_within;
 use day_writing::put_arrival;
 use day_writing::put_spans;
-use fronts::Front;
-use instants::Going;
+use front_rows::front_in;
+use front_rows::store_front;
+use goings::Going;
+use goings::going_in;
+use goings::ran_by;
 use instants::scan;
 use planning::Plan;
 use seats::Ended;
 use seats::Seat;
-use units::limits::CORES;
 use units::limits::TASKS;
 use units::ticks::Ticks;
 ghost use mathlib.Core.Path.{_≡_};
 ghost use Prim.Native.Nat.{_+_, _≤_};
-ghost use Rattle.units.specs.Limits.{tasksLimit};
 ghost use Rattle.writing.specs.Inner.{placeLimit};
 ghost use Rattle.day_lines.specs.Lines.{eventText, eventsText};
-ghost use Rattle.day_lines.specs.Window.{Windowed};
+ghost use Rattle.day_window.specs.Window.{Windowed};
 ghost use Rattle.day_lines.specs.declared.Event.the-variants.{Finished};
 ghost use Rattle.day.specs.Desk.{deskAt};
 ghost use Rattle.rehearsal.specs.Desk.{freshDesk};
-ghost use Rattle.rehearsal.specs.Inner.{onCore, Rehearsable, Stood};
+ghost use Rattle.rehearsal.specs.Inner.{onCore, Rehearsable, Blank, Stood};
 
-// Where a rehearsal is: each task and its front, the ticks had, the runs that have the cores; the instant, the next arrival,
-// the next core whose run may be done, and the place after what was said.
+// Where a rehearsal is: each task; the instant, the next arrival, the next core whose run may be done, and the place after what was said.
 pub(crate) struct Desk {
     pub seats: [Seat; TASKS],
-    pub fronts: [Front; TASKS],
-    pub had: [u64; TASKS],
-    pub going: [Going; CORES],
     pub time: u64,
     pub next: usize,
     pub core: usize,
@@ -44,20 +41,15 @@ pub(crate) struct Desk {
 }
 
 // Nothing yet.
-fn fresh_desk(plan: Plan) -> Desk
-    requires { ⌜ plan .count ≤ tasksLimit ⌝ }
-    ensures { λ r. ⌜ r ≡ freshDesk plan ⌝ }
+fn fresh_desk(cores: usize) -> Desk
+    ensures { λ r. ⌜ r ≡ freshDesk cores ⌝ }
 {
-    let fronts = fresh_fronts(plan);
     Desk {
         seats: [Seat::FRESH; TASKS],
-        fronts: fronts,
-        had: [0; TASKS],
-        going: [Going::NONE; CORES],
         time: 0,
         next: 0,
-        core: plan.cores as usize,
-        cores: plan.cores as usize,
+        core: cores,
+        cores: cores,
         end: 0,
     }
 }
@@ -85,35 +77,39 @@ fn put_finish(
     put_within(out, skip, at, Event::Finished(ran, time, late))
 }
 
-// All steps up to the stop, and what they say.
+// All steps up to the stop, and what they say. Fronts, ticks had and the runs that have the cores are lent, since numbers that are lent are not copied.
 pub(crate) fn rehearse(
     plan: Plan,
     arrivals: &[u64],
     stop: Ticks,
     skip: usize,
     out: &mut [u8],
+    fronts: &mut [u64],
+    had: &mut [u64],
+    goings: &mut [u64],
 ) -> Desk
-    requires { ⌜ Rehearsable plan (now arrivals) (stop .0) ⌝ }
-    ensures { λ r. ⌜ Stood plan (now (arrivals .entry)) (stop .0) r ⌝ }
+    requires { ⌜ Rehearsable plan (now arrivals) (stop .0) × Blank (now fronts) (now had) (now goings) ⌝ }
+    ensures { λ r. ⌜ Stood plan (now (arrivals .entry)) (stop .0) r (now (had .exit)) (now (goings .exit)) ⌝ }
     ensures { λ r. ⌜ Windowed (now (out .entry)) skip 0 (eventsText (deskAt plan (now (arrivals .entry)) (stop .0) .said)) (now (out .exit)) (r .end) ⌝ }
     ensures { λ r. ⌜ r .end ≤ 10000000000000000 ⌝ }
 {
-    let mut desk = fresh_desk(plan);
+    let mut desk = fresh_desk(plan.cores as usize);
+    fresh_fronts(plan, fronts);
     while (desk.core < desk.cores) | (desk.time < stop.0) {
-        let coming = coming_at(arrivals, desk.next, stop);
         let time = Ticks(desk.time);
+        let coming = coming_at(arrivals, desk.next, stop);
         if desk.core < desk.cores {
-            let run = desk.going[desk.core];
+            let run = going_in(goings, desk.core);
             desk.core += 1;
             let i = place_of(run.task);
-            if done_by(run, desk.fronts[i], desk.had[i]) {
+            let front = front_in(fronts, i);
+            if done_by(run, front, had[i]) {
                 let ended = desk.seats[i].end(plan.lines[i], time);
                 desk.end = put_finish(out, skip, desk.end, desk.core, run, time, ended);
                 let seat = ended.seat;
                 desk.seats[i] = seat;
-                let front = ended.front;
-                desk.fronts[i] = front;
-                desk.had[i] = 0;
+                store_front(fronts, i, ended.front);
+                had[i] = 0;
             }
         } else if coming.0 == time.0 {
             let i = arrivals[3 * desk.next + 1] as usize - 1;
@@ -123,18 +119,15 @@ pub(crate) fn rehearse(
             desk.end = put_arrival(out, skip, desk.end, arrived.refusal, desk.next, i + 1, time);
             let seat = arrived.seat;
             desk.seats[i] = seat;
-            let front = arrived.front;
-            desk.fronts[i] = front;
+            store_front(fronts, i, arrived.front);
         } else {
-            let instant = scan(desk.fronts, desk.had, plan.count, time, coming);
-            let jump = jump_from(desk.going, desk.had, instant, desk.cores, time);
-            let going = jump.going;
-            desk.end = put_spans(out, skip, desk.end, desk.going, going, desk.cores, time);
-            desk.going = going;
-            let had = jump.had;
-            desk.had = had;
-            desk.time = jump.time.0;
-            desk.core = 0;
+            let instant = scan(fronts, had, plan.count, time, coming);
+            let jump = jump_from(instant, desk.cores, time);
+            let seen = instant.seen;
+            desk.end = put_spans(out, skip, desk.end, goings, seen, desk.cores, time);
+            ran_by(had, goings, desk.cores, jump.more);
+            desk.time += jump.more;
+            desk.core = jump.core;
         }
     }
     desk

@@ -11,8 +11,8 @@ use borrow.Author.Tests.{lt-ltb, le-ltb, ltb-true, ltb-false}
 use Rattle.lists.proofs.Tests.{by-cases}
 use Rattle.writing.specs.Wrote.{Wrote}
 use Rattle.writing.proofs.Wrote.{then}
-use Rattle.day_lines.specs.Window.{Windowed}
-use Rattle.day_lines.proofs.Windows.{from-start}
+use Rattle.day_window.specs.Window.{Windowed}
+use Rattle.day_window.proofs.Windows.{from-start}
 use Rattle.rehearsal_answer.specs.Inner.{pieceLength}
 
 -- the piece from byte s on

@@ -18,9 +18,9 @@ use Rattle.soundness.proofs.PlannedShape.{started-plan}
 use Rattle.soundness.proofs.PlannedSound.{plan-sound}
 use Rattle.arrivals.specs.Arrivals.{arrivalsIn}
 use Rattle.arrivals.proofs.Passed.{fine}
-use Rattle.day_lines.specs.Window.{Windowed}
-use Rattle.day_lines.proofs.Windows.{recast}
-use Rattle.day.specs.Day.{dayText}
+use Rattle.day_window.specs.Window.{Windowed}
+use Rattle.day_window.proofs.Windows.{recast}
+use Rattle.day_rules.specs.Day.{dayText}
 use Rattle.day_text.specs.Input.{rehearses, unreadable, dayOf}
 use Rattle.rehearsal.specs.Inner.{Rehearsable}
 use Rattle.rehearsal_answer.specs.Answer.{leftText, firstRefused, testedText, stoppedText, plannedText, saidText, rehearsalText}

@@ -11,7 +11,7 @@ use Rattle.planning.specs.declared.Plan.{Plan}
 use Rattle.planning.specs.declared.Planned.{Planned}
 use Rattle.planning.specs.Plan.{planOf}
 use Rattle.arrivals.specs.Arrivals.{arrivalsIn, arrivalsRefusal}
-use Rattle.day.specs.Day.{dayText}
+use Rattle.day_rules.specs.Day.{dayText}
 use Rattle.day_text.specs.Input.{DaySays, rehearses, unreadable, dayOf}
 
 -- arrivals of which none is refused: 25 for a line that is left after them, which it names as an arrival; else the day

@@ -14,7 +14,7 @@ use writing::put_text;
 use writing::refused::put_refusal;
 ghost use Rattle.planning.specs.Plan.{planOf};
 ghost use Rattle.writing.specs.Refused.{refusalText};
-ghost use Rattle.day_lines.specs.Window.{Windowed};
+ghost use Rattle.day_window.specs.Window.{Windowed};
 ghost use Rattle.rehearsal_answer.specs.Answer.{testedText, plannedText, rehearsalText};
 ghost use Rattle.rehearsal_answer.specs.Inner.{Stoppable};
 

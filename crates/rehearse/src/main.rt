@@ -10,11 +10,11 @@ ghost use lib.ListN.{length};
 ghost use Rattle.rehearsal_answer.specs.Inner.{pieceLength};
 
 // Bytes of a piece, at most.
-const PIECE: usize = 1_000_000;
+const PIECE: usize = 500_000;
 
 // Zeros for a piece; its contract gives the length alone, so that no proof spells the zeros out.
 fn room() -> [u8; PIECE]
-    ensures { λ r. ⌜ 1000000 ≡ length r ⌝ }
+    ensures { λ r. ⌜ 500000 ≡ length r ⌝ }
 {
     [0; PIECE]
 }

@@ -1,7 +1,8 @@
 -- `day_writing::put_arrival` meets its contract.
 use mathlib.Core.Path.{refl}
-use Rattle.day_lines.proofs.Windows.{none, recast}
-use Rattle.day_writing.proofs.Said.{told, taken, refused}
+use Rattle.day_window.proofs.Windows.{none, recast}
+use Rattle.day_window.proofs.Saying.{told}
+use Rattle.day_writing.proofs.Said.{taken, refused}
 use borrow.Author.Needs.{needs}
 use Rattle.day_writing.proofs.put_arrival.Statement.{statement}
 use Rattle.day_writing.proofs.put_arrival.Tie as tie

@@ -1,7 +1,8 @@
 -- `day_writing::put_span` meets its contract.
 use mathlib.Core.Path.{refl}
-use Rattle.day_lines.proofs.Windows.{none, recast}
-use Rattle.day_writing.proofs.Said.{told, no-span, a-span}
+use Rattle.day_window.proofs.Windows.{none, recast}
+use Rattle.day_window.proofs.Saying.{told}
+use Rattle.day_writing.proofs.Said.{no-span, a-span}
 use borrow.Author.Needs.{needs}
 use Rattle.day_writing.proofs.put_span.Statement.{statement}
 use Rattle.day_writing.proofs.put_span.Tie as tie

@@ -24,7 +24,7 @@ use Rattle.arrivals.specs.Arrivals.{arrivalsIn, arrivalTests, refusalFrom, arri
 use Rattle.arrivals.specs.Fine.{First}
 use Rattle.arrivals.proofs.Exactly.{refused-exactly}
 use Rattle.arrivals.proofs.Passed.{fine, fine-taken}
-use Rattle.day.specs.Day.{dayText}
+use Rattle.day_rules.specs.Day.{dayText}
 use Rattle.day_text.specs.Input.{rehearses, dayOf}
 use Rattle.rehearsal_answer.specs.Answer.{testedText, rehearsalText}
 use Rattle.rehearsal_answer.proofs.Texts.{arrival-refused, line-left, day-follows, table-refused, stop-above, stop-within, input-good}

@@ -30,7 +30,7 @@ module _ (ln : Line) (st : State) (wk : Work) where
     length = lengthAt wk 0;
     run = wk .ended + 1;
     last = st .last;
-    period = ln .period;
+    period = ln .period .0;
   }
 
   -- of a task without a run
@@ -44,6 +44,9 @@ module _ (ln : Line) (st : State) (wk : Work) where
   unfolding frontOf
   some h k d r q = rw (ne-eqb (st .live) 0 h, k, r, d, q)
 
+cast-period : tie.Need-cast-period
+cast-period c = search needs
+
 element-copy-out-length : tie.Need-element-copy-out-length
 element-copy-out-length c = search needs
 
@@ -51,7 +54,7 @@ add-run : tie.Need-add-run
 add-run c = search needs
 
 returns : tie.Need-returns
-returns c = let s = c .before .before .before .before .args in none (s .line) (s .t2) (s .t3) (c .if1 .taken)
+returns c = let s = c .before .before .before .before .before .args in none (s .line) (s .t2) (s .t3) (c .if1 .taken)
 
 element-copy-out-at : tie.Need-element-copy-out-at
 element-copy-out-at c = search needs
@@ -61,7 +64,7 @@ cast-core c = search needs
 
 key-requires : tie.Need-key-requires
 key-requires c κs =
-    let s = c .before .before .before .before .before in
+    let s = c .before .before .before .before .before .before in
     let h : 0 < s .args .t2 .live = omega (arith, c .before .if1 .left) in
     (s .pre .placed h, s .pre .here h, s .pre .due h)
 
@@ -79,13 +82,14 @@ returns-2 c =
     let d = c .before in
     let k = d .before .before in
     let e = k .before .before in
-    let s = e .before .before .before .before .args in
+    let s = e .before .before .before .before .before .args in
     some (s .line) (s .t2) (s .t3) (e .if1 .left) (k .key .ensures) (d .due-after .ensures) (c .released .ensures) refl
 
 pub front-of-spec : {M : Type 1} → statement M
 front-of-spec =
     tie.close
     (tie.spec
+    cast-period
     element-copy-out-length
     add-run
     returns

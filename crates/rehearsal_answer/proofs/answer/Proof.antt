@@ -1,7 +1,7 @@
 -- `rehearsal_answer::answer` meets its contract.
 use mathlib.Core.Path.{refl}
 use native.Mathlib.Omega.{arith}
-use Rattle.day_lines.proofs.Windows.{recast}
+use Rattle.day_window.proofs.Windows.{recast}
 use Rattle.day_text.proofs.Answered.{is-unreadable, table-few, numbers-few, is-read}
 use Rattle.rehearsal_answer.proofs.Texts.{due, input-bad, input-good}
 use borrow.Author.Needs.{needs}

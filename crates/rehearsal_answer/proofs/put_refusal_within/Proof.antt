@@ -1,5 +1,5 @@
 -- `rehearsal_answer::put_refusal_within` meets its contract.
-use Rattle.day_lines.proofs.Windows.{cut, past}
+use Rattle.day_window.proofs.Windows.{cut, past}
 use borrow.Author.Needs.{needs}
 use Rattle.rehearsal_answer.proofs.put_refusal_within.Statement.{statement}
 use Rattle.rehearsal_answer.proofs.put_refusal_within.Tie as tie

@@ -6,7 +6,7 @@ use Rattle.rehearse.proofs.room.Statement.{statement}
 use Rattle.rehearse.proofs.room.Tie as tie
 
 returns : tie.Need-returns
-returns c = sym (length-replicate {0} {A = ℕ} 1000000 0)
+returns c = sym (length-replicate {0} {A = ℕ} 500000 0)
 
 pub room-spec : {M : Type 1} → statement M
 room-spec = tie.close (tie.spec returns)

@@ -6,7 +6,7 @@ use mir.Val.{SFits}
 use mir.ValLaws.{toZ-ofZ}
 use Rattle.day_lines.specs.declared.Ran.{Ran}
 use Rattle.day_lines.specs.declared.Event.the-variants.{Finished}
-use Rattle.day_writing.proofs.Said.{told}
+use Rattle.day_window.proofs.Saying.{told}
 use borrow.Author.Needs.{needs}
 use Rattle.rehearsal.proofs.steps.put_finish.Statement.{statement}
 use Rattle.rehearsal.proofs.steps.put_finish.Tie as tie

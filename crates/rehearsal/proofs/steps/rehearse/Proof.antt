@@ -10,15 +10,16 @@ use lib.ListN.{length, getD}
 use borrow.Author.Tests.{ltb-false, ltb-true}
 use Rattle.lists.proofs.Tests.{or-cases, or-false-left, or-false-right}
 use Rattle.units.specs.Limits.{coresLimit, tasksLimit}
-use Rattle.arrivals.specs.Arrivals.{arrivalsIn, arrivalTask}
 use Rattle.units.specs.declared.ticks.Ticks.{Ticks}
-use Rattle.rehearsal.specs.declared.steps.Desk.{Desk}
-use Rattle.instants.specs.Going.{noGoing}
 use Rattle.soundness.proofs.Facts.{cores-few, tasks-few}
-use Rattle.day_lines.proofs.Windows.{kept}
+use Rattle.arrivals.specs.Arrivals.{arrivalsIn, arrivalTask}
+use Rattle.goings.specs.declared.Going.{Going}
+use Rattle.goings.specs.Rows.{goingAt}
+use Rattle.front_rows.specs.Rows.{frontAt}
+use Rattle.day_window.proofs.Windows.{kept}
+use Rattle.rehearsal.specs.declared.steps.Desk.{Desk}
 use Rattle.rehearsal.specs.Inner.{Rehearsable}
 use Rattle.rehearsal.specs.Parts.{comingAt, doneBy}
-use Rattle.fronts.specs.Front.{noFront}
 use Rattle.rehearsal.proofs.Rehearsing as R
 use Rattle.rehearsal.proofs.Rehearsing.{Rehearsing}
 use borrow.Author.Needs.{needs}
@@ -26,42 +27,44 @@ use Rattle.rehearsal.proofs.steps.rehearse.Statement.{statement}
 use Rattle.rehearsal.proofs.steps.rehearse.Tie as tie
 
 abbrev Inv-loop : tie.InvT-loop
-Inv-loop arrivals stop skip out₀ plan desk₀ out desk = Rehearsing plan arrivals (stop .0) skip out₀ out desk
+Inv-loop arrivals stop skip out₀ fronts₀ had₀ goings₀ plan desk₀ out fronts had goings desk =
+    Rehearsing plan arrivals (stop .0) skip out₀ out fronts had goings desk
 
 abbrev μ-loop : tie.MeasureT-loop
-μ-loop arrivals stop skip out₀ plan desk₀ out desk = 20 * (stop .0 - desk .time) + (desk .cores - desk .core) + (length arrivals / 3 - desk .next)
+μ-loop arrivals stop skip out₀ fronts₀ had₀ goings₀ plan desk₀ out fronts had goings desk =
+    20 * (stop .0 - desk .time) + (desk .cores - desk .core) + (length arrivals / 3 - desk .next)
 
 -- the start, and what is asked
 abbrev start : tie.At-loop Inv-loop μ-loop → tie.Start Inv-loop μ-loop
-start c = c .before .before .before .before
+start c = c .before .before .before .before .before .before .before .before .before .before .before
 
 asked : (c : tie.At-loop Inv-loop μ-loop) → Rehearsable (start c .args .t1) (start c .args .arrivals .now) (start c .args .stop .0)
-asked c = start c .pre
+asked c = start c .pre .0
 
 -- the loop from a core's step
 abbrev fromCore : tie.Then2 Inv-loop μ-loop → tie.At-loop Inv-loop μ-loop
 fromCore c = c .before .before .before .before
 
-core-small : (c : tie.Then2 Inv-loop μ-loop) → fromCore c .loop .desk .core < coresLimit
-core-small c =
-    let l = fromCore c in
-    omega (arith, c .if2 .taken, l .loop .inv .cores, cores-few (start l .args .t1) (asked l .sound))
-
 -- its task's place
-place-is : (c : tie.After-place-of Inv-loop μ-loop) → let l = fromCore (c .before .before) .loop .desk in
-    c .place-of .result ≡ getD (l .going) (l .core) noGoing .task - 1
-place-is c = c .place-of .ensures
+place-is : (c : tie.After-place-of Inv-loop μ-loop) → let l = fromCore (c .before .before .before) .loop in
+    c .place-of .result ≡ goingAt (l .goings) (l .desk .core) .task - 1
+place-is c = c .place-of .ensures ∙ ap (λ (g : Going). g .task - 1) (c .before .going-in .ensures)
 
 place-low : (c : tie.After-place-of Inv-loop μ-loop) → c .place-of .result < tasksLimit
 place-low c =
-    let l = fromCore (c .before .before) in
-    omega (arith, place-is c, R.place-small (asked l) (l .loop .inv) (c .before .before .if2 .taken))
+    let t = c .before .before .before in
+    let l = fromCore t in
+    omega (arith, place-is c, R.place-small (asked l) (l .loop .inv) (t .if2 .taken))
 
 -- whether it is done
-tested : (c : tie.After-done-by Inv-loop μ-loop) → let l = fromCore (c .before .before .before .before .before) .loop .desk in
-    let i = getD (l .going) (l .core) noGoing .task - 1 in
-    c .done-by .result ≡ doneBy (getD (l .going) (l .core) noGoing .task) (getD (l .fronts) i noFront .length) (getD (l .had) i 0)
-tested c = rw (place-is (c .before .before .before)) at (c .done-by .ensures)
+tested : (c : tie.After-done-by Inv-loop μ-loop) → let l = fromCore (c .before .before .before .before .before .before .before) .loop in
+    let run = goingAt (l .goings) (l .desk .core) in
+    c .done-by .result ≡ doneBy (run .task) (frontAt (l .fronts) (run .task - 1) .length) (getD (l .had) (run .task - 1) 0)
+tested c =
+    let p = c .before .before .before .before in
+    let g = c .before .before .before .before .before .going-in .ensures in
+    let f = c .before .before .front-in .ensures in
+    rw (f, place-is p, g) at (c .done-by .ensures)
 
 -- the loop from an arrival's step, from a jump's and from the end
 abbrev fromArrival : tie.Then4 Inv-loop μ-loop → tie.At-loop Inv-loop μ-loop
@@ -126,107 +129,137 @@ ended c =
       ltb-false (d .time) stop (or-false-right (ltb (d .core) (d .cores)) (ltb (d .time) stop) (c .if1 .left)),
     )
 
+-- from where a line was said
+abbrev coreOfFinish : tie.After-put-finish Inv-loop μ-loop → tie.Then2 Inv-loop μ-loop
+coreOfFinish c = c .before .before .before .before .before .before .before .before .before .before .before .before .before
+
+abbrev doneOfFinish : tie.After-put-finish Inv-loop μ-loop → tie.Then3 Inv-loop μ-loop
+doneOfFinish c = c .before .before .before .before .before
+
+abbrev nowOfArrival : tie.After-put-arrival Inv-loop μ-loop → tie.Then4 Inv-loop μ-loop
+nowOfArrival c = c .before .before .before .before .before .before .before
+
+abbrev elseOfArrival : tie.After-put-arrival Inv-loop μ-loop → tie.Else2 Inv-loop μ-loop
+elseOfArrival c = c .before .before .before .before .before .before .before .before .before .before
+
+abbrev jumpOfSpans : tie.After-put-spans Inv-loop μ-loop → tie.Else4 Inv-loop μ-loop
+jumpOfSpans c = c .before .before .before .before .before .before .before .before
+
+abbrev elseOfSpans : tie.After-put-spans Inv-loop μ-loop → tie.Else2 Inv-loop μ-loop
+elseOfSpans c = c .before .before .before .before .before .before .before .before .before .before .before
+
+cast-fresh-desk : tie.Need-cast-fresh-desk Inv-loop μ-loop
+cast-fresh-desk c = search needs
+
 fresh-desk-requires : tie.Need-fresh-desk-requires Inv-loop μ-loop
-fresh-desk-requires c κs = tasks-few (c .before .before .args .t1) (c .before .before .pre .sound)
+fresh-desk-requires c κs = search needs
+
+fresh-fronts-requires : tie.Need-fresh-fronts-requires Inv-loop μ-loop
+fresh-fronts-requires c κs = let s = c .before .before .before .before .before .before .before in tasks-few (s .args .t1) (s .pre .0 .sound)
 
 loop-holds : tie.Need-loop-holds Inv-loop μ-loop
-loop-holds c = rw (c .fresh-desk .ensures) (R.begun _ _ _ _ _ (c .before .before .before .pre))
+loop-holds c =
+    let s = c .before .before .before .before .before .before .before .before .before .before in
+    rw (c .before .before .before .before .fresh-desk .ensures, c .before .before .fresh-fronts .ensures) (R.begun _ _ _ _ _ (s .pre .0) (s .pre .1))
 
 coming-at-requires : tie.Need-coming-at-requires Inv-loop μ-loop
 coming-at-requires c κs = search needs
 
-mul-run : tie.Need-mul-run Inv-loop μ-loop
-mul-run c = search needs
-
-element-copy-out-run : tie.Need-element-copy-out-run Inv-loop μ-loop
-element-copy-out-run c = omega (arith, core-small c)
+going-in-requires : tie.Need-going-in-requires Inv-loop μ-loop
+going-in-requires c κs =
+    let t = c .before in
+    let l = fromCore t in
+    (R.core-in (asked l) (l .loop .inv) (t .if2 .taken), l .loop .inv .wide)
 
 add-desk : tie.Need-add-desk Inv-loop μ-loop
-add-desk c = search needs
+add-desk c = let t = c .before .before in let l = fromCore t in omega (arith, R.core-in (asked l) (l .loop .inv) (t .if2 .taken))
 
 place-of-requires : tie.Need-place-of-requires Inv-loop μ-loop
 place-of-requires c κs = search needs
 
+front-in-requires : tie.Need-front-in-requires Inv-loop μ-loop
+front-in-requires c κs = (place-low (c .before), fromCore (c .before .before .before .before) .loop .inv .fronts)
+
 mul-done-by : tie.Need-mul-done-by Inv-loop μ-loop
-mul-done-by c = omega (arith, place-low (c))
+mul-done-by c = omega (arith, place-low (c .before .before))
 
-element-copy-out-done-by : tie.Need-element-copy-out-done-by Inv-loop μ-loop
-element-copy-out-done-by c = omega (arith, place-low (c))
-
-mul-done-by-2 : tie.Need-mul-done-by-2 Inv-loop μ-loop
-mul-done-by-2 c = omega (arith, place-low (c .before))
-
-element-copy-out-done-by-2 : tie.Need-element-copy-out-done-by-2 Inv-loop μ-loop
-element-copy-out-done-by-2 c = omega (arith, place-low (c .before))
+slice-read-done-by : tie.Need-slice-read-done-by Inv-loop μ-loop
+slice-read-done-by c = omega (arith, place-low (c .before .before .before), fromCore (c .before .before .before .before .before .before) .loop .inv .long)
 
 done-by-requires : tie.Need-done-by-requires Inv-loop μ-loop
 done-by-requires c κs = search needs
 
 mul-end : tie.Need-mul-end Inv-loop μ-loop
-mul-end c = omega (arith, place-low (c .before .before .before .before))
+mul-end c = omega (arith, place-low (c .before .before .before .before .before))
 
 element-copy-out-end : tie.Need-element-copy-out-end Inv-loop μ-loop
-element-copy-out-end c = omega (arith, place-low (c .before .before .before .before))
+element-copy-out-end c = omega (arith, place-low (c .before .before .before .before .before))
 
 mul-end-2 : tie.Need-mul-end-2 Inv-loop μ-loop
-mul-end-2 c = omega (arith, place-low (c .before .before .before .before .before))
+mul-end-2 c = omega (arith, place-low (c .before .before .before .before .before .before))
 
 element-copy-out-end-2 : tie.Need-element-copy-out-end-2 Inv-loop μ-loop
-element-copy-out-end-2 c = omega (arith, place-low (c .before .before .before .before .before))
+element-copy-out-end-2 c = omega (arith, place-low (c .before .before .before .before .before .before))
 
 end-requires : tie.Need-end-requires Inv-loop μ-loop
 end-requires c κs =
-    let t = c .before .before .before .before .before .before .before .before in
+    let t = c .before .before .before .before .before .before .before .before .before .before in
     let l = fromCore t in
     let y = c .before .before in
     let z = sym (tested (y .before)) ∙ y .if3 .taken in
-    rw (place-is (c .before .before .before .before .before .before)) (R.endable (asked l) (l .loop .inv) (t .if2 .taken) z)
+    rw (place-is (c .before .before .before .before .before .before .before)) (R.endable (asked l) (l .loop .inv) (t .if2 .taken) z)
 
 put-finish-requires : tie.Need-put-finish-requires Inv-loop μ-loop
-put-finish-requires c κs = let l = fromCore (c .before .before .before .before .before .before .before .before .before .before) in
+put-finish-requires c κs =
+    let l = fromCore (c .before .before .before .before .before .before .before .before .before .before .before .before) in
     omega (arith, R.room (asked l) (l .loop .inv))
 
 mul-seat : tie.Need-mul-seat Inv-loop μ-loop
-mul-seat c = omega (arith, place-low (c .before .before .before .before .before .before .before .before .before .before .before .before))
+mul-seat c =
+    let p = c .before .before .before .before .before .before .before .before .before .before .before .before .before in
+    omega (arith, place-low p)
 
 element-set-from-seat : tie.Need-element-set-from-seat Inv-loop μ-loop
-element-set-from-seat c = omega (arith, place-low (c .before .before .before .before .before .before .before .before .before .before .before .before))
+element-set-from-seat c =
+    let p = c .before .before .before .before .before .before .before .before .before .before .before .before .before in
+    omega (arith, place-low p)
 
-mul-front : tie.Need-mul-front Inv-loop μ-loop
-mul-front c = omega (arith, place-low (c .before .before .before .before .before .before .before .before .before .before .before .before .before))
+store-front-requires : tie.Need-store-front-requires Inv-loop μ-loop
+store-front-requires c κs = place-low (c .before .before .before .before .before .before .before .before .before .before .before .before .before .before)
 
-element-set-from-front : tie.Need-element-set-from-front Inv-loop μ-loop
-element-set-from-front c = omega (arith, place-low (c .before .before .before .before .before .before .before .before .before .before .before .before .before))
+mul-had : tie.Need-mul-had Inv-loop μ-loop
+mul-had c =
+    let p = c .before .before .before .before .before .before .before .before .before .before .before .before .before .before .before .before .before in
+    omega (arith, place-low p)
 
-mul-desk : tie.Need-mul-desk Inv-loop μ-loop
-mul-desk c = omega (arith, place-low (c .before .before .before .before .before .before .before .before .before .before .before .before .before))
-
-element-write-desk : tie.Need-element-write-desk Inv-loop μ-loop
-element-write-desk c = omega (arith, place-low (c .before .before .before .before .before .before .before .before .before .before .before .before .before))
+slice-write-had : tie.Need-slice-write-had Inv-loop μ-loop
+slice-write-had c =
+    let p = c .before .before .before .before .before .before .before .before .before .before .before .before .before .before .before .before .before in
+    omega (arith, place-low p, fromCore (p .before .before .before) .loop .inv .long)
 
 loop-less : tie.Need-loop-less Inv-loop μ-loop
-loop-less c = let t = c .before .before .before .before .before .before .before .before .before .before .before .before .before .before .before in
-    omega (arith, t .if2 .taken)
+loop-less c = let t = coreOfFinish (c .before .before .before .before .before .before .before) in omega (arith, t .if2 .taken)
 
 loop-again : tie.Need-loop-again Inv-loop μ-loop
 loop-again c =
-    let t = c .before .before .before .before .before .before .before .before .before .before .before .before .before .before .before in
+    let t = coreOfFinish (c .before .before .before .before .before .before .before) in
     let l = fromCore t in
-    let y = c .before .before .before .before .before .before .before .before .before in
+    let y = doneOfFinish (c .before .before .before .before .before .before .before) in
     let z = sym (tested (y .before)) ∙ y .if3 .taken in
-    let i = place-is (c .before .before .before .before .before .before .before .before .before .before .before .before .before) in
-    let o = rw i at (c .before .before .before .before .before .before .end .ensures) in
-    rw i
-    (R.ended-on (asked l) (l .loop .inv) (t .if2 .taken) z o
-    (c .before .before .before .before .put-finish .ensures .0)
-    (c .before .before .before .before .put-finish .ensures .1))
+    let p = c .before .before .before .before .before .before .before .before .before .before .before .before .before .before .before .before .before in
+    let i = place-is p in
+    let g = p .before .going-in .ensures in
+    let o = rw i at (c .before .before .before .before .before .before .before .before .before .end .ensures) in
+    let w = c .before .before .before .before .before .before .before .put-finish .ensures in
+    rw (c .before .before .store-front .ensures, i)
+    (R.ended-on (asked l) (l .loop .inv) (t .if2 .taken) z o (rw g at (w .0)) (w .1))
 
 loop-less-2 : tie.Need-loop-less-2 Inv-loop μ-loop
-loop-less-2 c = let t = c .before .before .before .before .before .before in omega (arith, t .if2 .taken)
+loop-less-2 c = let t = c .before .before .before .before .before .before .before .before in omega (arith, t .if2 .taken)
 
 loop-again-2 : tie.Need-loop-again-2 Inv-loop μ-loop
 loop-again-2 c =
-    let t = c .before .before .before .before .before .before in
+    let t = c .before .before .before .before .before .before .before .before in
     let l = fromCore t in
     R.still-on (asked l) (l .loop .inv) (t .if2 .taken) (sym (tested (c .before)) ∙ c .if3 .left)
 
@@ -286,72 +319,104 @@ put-arrival-requires : tie.Need-put-arrival-requires Inv-loop μ-loop
 put-arrival-requires c κs = let l = fromArrival (c .before .before .before .before .before .before) in omega (arith, R.room (asked l) (l .loop .inv))
 
 mul-seat-2 : tie.Need-mul-seat-2 Inv-loop μ-loop
-mul-seat-2 c = omega (arith, task-low (c .before .before .before .before .before .before .before .before .before .before))
+mul-seat-2 c = omega (arith, task-low (nowOfArrival (c .before .before .before)))
 
 element-set-from-seat-2 : tie.Need-element-set-from-seat-2 Inv-loop μ-loop
-element-set-from-seat-2 c = omega (arith, task-low (c .before .before .before .before .before .before .before .before .before .before))
+element-set-from-seat-2 c = omega (arith, task-low (nowOfArrival (c .before .before .before)))
 
-mul-front-2 : tie.Need-mul-front-2 Inv-loop μ-loop
-mul-front-2 c = omega (arith, task-low (c .before .before .before .before .before .before .before .before .before .before .before))
-
-element-set-from-front-2 : tie.Need-element-set-from-front-2 Inv-loop μ-loop
-element-set-from-front-2 c = omega (arith, task-low (c .before .before .before .before .before .before .before .before .before .before .before))
+store-front-requires-2 : tie.Need-store-front-requires-2 Inv-loop μ-loop
+store-front-requires-2 c κs = task-low (nowOfArrival (c .before .before .before .before))
 
 loop-less-3 : tie.Need-loop-less-3 Inv-loop μ-loop
-loop-less-3 c = let t = c .before .before .before .before .before .before .before .before .before .before .before in omega (arith, here t)
+loop-less-3 c = omega (arith, here (nowOfArrival (c .before .before .before .before .before .before .before)))
 
 loop-again-3 : tie.Need-loop-again-3 Inv-loop μ-loop
 loop-again-3 c =
-    let t = c .before .before .before .before .before .before .before .before .before .before .before in
+    let t = nowOfArrival (c .before .before .before .before .before .before .before) in
     let l = fromArrival t in
-    let e = c .before .before .before .before .before .before .before .before .before .before .before .before .before .before in
-    R.arrived-on (asked l) (l .loop .inv) (e .if2 .left) (early e) (now-is t) (c .before .before .before .before .before .before .arrive .ensures)
-    (c .before .before .before .before .put-arrival .ensures .0) (c .before .before .before .before .put-arrival .ensures .1)
+    let e = elseOfArrival (c .before .before .before .before .before .before .before) in
+    let a = c .before .before .before .before .before .before .before .before .before in
+    let w = c .before .before .before .before .before .before .before .put-arrival .ensures in
+    rw (c .before .before .store-front2 .ensures)
+    (R.arrived-on (asked l) (l .loop .inv) (e .if2 .left) (early e) (now-is t) (a .arrive .ensures) (w .0) (w .1))
 
 scan-requires : tie.Need-scan-requires Inv-loop μ-loop
-scan-requires c κs = let l = fromJump (c .before .before) in tasks-few (start l .args .t1) (asked l .sound)
+scan-requires c κs =
+    let l = fromJump (c .before .before) in
+    (tasks-few (start l .args .t1) (asked l .sound), l .loop .inv .fronts, l .loop .inv .long)
 
 jump-from-requires : tie.Need-jump-from-requires Inv-loop μ-loop
 jump-from-requires c κs =
-    let t = c .before .before .before .before .before in
+    let t = c .before .before .before in
     let l = fromJump t in
-    let e = c .before .before .before .before .before .before .before .before in
-    let s = c .before .before .scan .ensures in
+    let e = c .before .before .before .before .before .before in
+    let s = c .scan .ensures in
     let u = R.until-in (asked l) (l .loop .inv) (e .if2 .left) (early e) (now-not t) in
     let k = coming-is e in
-    rw (s .0, s .1, k) (u .0, u .1, R.addable-by (asked l) (l .loop .inv) (e .if2 .left) (early e) (now-not t))
+    (omega (arith, l .loop .inv .cores, cores-few (start l .args .t1) (asked l .sound)), rw (s .1, k) (u .0), rw (s .1, k) (u .1))
 
 put-spans-requires : tie.Need-put-spans-requires Inv-loop μ-loop
 put-spans-requires c κs =
-    let l = fromJump (c .before .before .before .before .before .before .before .before .before) in
-    (omega (arith, R.room (asked l) (l .loop .inv)), omega (arith, l .loop .inv .cores, cores-few (start l .args .t1) (asked l .sound)))
+    let l = fromJump (c .before .before .before .before .before .before .before) in
+    (omega (arith, R.room (asked l) (l .loop .inv)), omega (arith, l .loop .inv .cores, cores-few (start l .args .t1) (asked l .sound)), l .loop .inv .wide)
+
+ran-by-requires : tie.Need-ran-by-requires Inv-loop μ-loop
+ran-by-requires c κs =
+    let t = jumpOfSpans (c .before .before .before .before .before .before) in
+    let l = fromJump t in
+    let e = elseOfSpans (c .before .before .before .before .before .before) in
+    let s = c .before .before .before .before .before .before .before .before .before .before .before .scan .ensures in
+    let j = c .before .before .before .before .before .before .before .before .before .before .jump-from .ensures in
+    let k = coming-is e in
+    let g = c .before .before .before .before .before .before .put-spans .ensures .1 .1 in
+    rw (j .0, s .0, s .1, k) (R.addable (asked l) (l .loop .inv) (e .if2 .left) (early e) (now-not t) (rw (s .0) at g))
+
+add-desk-3 : tie.Need-add-desk-3 Inv-loop μ-loop
+add-desk-3 c =
+    let t = jumpOfSpans (c .before .before .before .before .before .before .before .before .before .before) in
+    let l = fromJump t in
+    let e = elseOfSpans (c .before .before .before .before .before .before .before .before .before .before) in
+    let s = c .before .before .before .before .before .before .before .before .before .before .before .before .before .before .before .scan .ensures in
+    let j = c .before .before .before .before .before .before .before .before .before .before .before .before .before .before .jump-from .ensures in
+    let k = coming-is e in
+    let v = rw (s .0, s .1, k) at (j .0) in
+    omega (arith, v, R.on-most (asked l) (l .loop .inv) (e .if2 .left) (early e) (now-not t), R.time-in (asked l) (l .loop .inv))
 
 loop-less-4 : tie.Need-loop-less-4 Inv-loop μ-loop
 loop-less-4 c =
-    let t = c .before .before .before .before .before .before .before .before .before .before .before .before .before in
+    let t = jumpOfSpans (c .before .before .before .before .before .before .before .before .before .before) in
     let l = fromJump t in
-    let e = c .before .before .before .before .before .before .before .before .before .before .before .before .before .before .before .before in
-    let s = c .before .before .before .before .before .before .before .before .before .before .scan .ensures in
-    let j = c .before .before .before .before .before .before .before .jump-from .ensures in
+    let e = elseOfSpans (c .before .before .before .before .before .before .before .before .before .before) in
+    let s = c .before .before .before .before .before .before .before .before .before .before .before .before .before .before .before .scan .ensures in
+    let j = c .before .before .before .before .before .before .before .before .before .before .before .before .before .before .jump-from .ensures in
     let k = coming-is e in
+    let v = rw (s .0, s .1, k) at (j .0) in
     let on = R.on-by (asked l) (l .loop .inv) (e .if2 .left) (early e) (now-not t) in
-    let v = rw (s .0, s .1, k) at (ap (λ (x : Ticks). x .0) (j .1 .1)) in
     omega (arith, on, v, early e, l .loop .inv .cores, cores-few (start l .args .t1) (asked l .sound))
 
 loop-again-4 : tie.Need-loop-again-4 Inv-loop μ-loop
 loop-again-4 c =
-    let t = c .before .before .before .before .before .before .before .before .before .before .before .before .before in
+    let t = jumpOfSpans (c .before .before .before .before .before .before .before .before .before .before) in
     let l = fromJump t in
-    let e = c .before .before .before .before .before .before .before .before .before .before .before .before .before .before .before .before in
-    let s = c .before .before .before .before .before .before .before .before .before .before .scan .ensures in
-    let j = c .before .before .before .before .before .before .before .jump-from .ensures in
+    let e = elseOfSpans (c .before .before .before .before .before .before .before .before .before .before) in
+    let s = c .before .before .before .before .before .before .before .before .before .before .before .before .before .before .before .scan .ensures in
+    let j = c .before .before .before .before .before .before .before .before .before .before .before .before .before .before .jump-from .ensures in
     let k = coming-is e in
-    R.jumped-next (asked l) (l .loop .inv) (e .if2 .left) (early e) (now-not t) (rw (s .0) at (j .0)) (rw (s .0, s .1, k) at (j .1 .0))
-    (rw (s .0, s .1, k) at (ap (λ (x : Ticks). x .0) (j .1 .1))) (c .before .before .before .put-spans .ensures .0)
-    (c .before .before .before .put-spans .ensures .1)
+    let w = c .before .before .before .before .before .before .before .before .before .before .put-spans .ensures in
+    R.jumped-next (asked l) (l .loop .inv) (e .if2 .left) (early e) (now-not t) (rw (s .0) at (w .1 .1))
+    (rw (s .0, s .1, k) at (j .0)) (rw (s .0, s .1, k) at (j .1)) (c .before .before .before .ran-by .ensures) (rw (s .0) at (w .0)) (w .1 .0)
 
 same-length : tie.Need-same-length Inv-loop μ-loop
 same-length c = kept (fromEnd c .loop .inv .wrote)
+
+same-length-2 : tie.Need-same-length-2 Inv-loop μ-loop
+same-length-2 c = let l = fromEnd c in l .loop .inv .fronts ∙ sym (start l .pre .1 .fronts)
+
+same-length-3 : tie.Need-same-length-3 Inv-loop μ-loop
+same-length-3 c = let l = fromEnd c in l .loop .inv .long ∙ sym (ap length (start l .pre .1 .had))
+
+same-length-4 : tie.Need-same-length-4 Inv-loop μ-loop
+same-length-4 c = let l = fromEnd c in l .loop .inv .wide ∙ sym (ap length (start l .pre .1 .goings))
 
 returns : tie.Need-returns Inv-loop μ-loop
 returns c =
@@ -365,17 +430,17 @@ rehearse-spec =
     (tie.spec
     Inv-loop
     μ-loop
+    cast-fresh-desk
     fresh-desk-requires
+    fresh-fronts-requires
     loop-holds
     coming-at-requires
-    mul-run
-    element-copy-out-run
+    going-in-requires
     add-desk
     place-of-requires
+    front-in-requires
     mul-done-by
-    element-copy-out-done-by
-    mul-done-by-2
-    element-copy-out-done-by-2
+    slice-read-done-by
     done-by-requires
     mul-end
     element-copy-out-end
@@ -385,10 +450,9 @@ rehearse-spec =
     put-finish-requires
     mul-seat
     element-set-from-seat
-    mul-front
-    element-set-from-front
-    mul-desk
-    element-write-desk
+    store-front-requires
+    mul-had
+    slice-write-had
     loop-less
     loop-again
     loop-less-2
@@ -412,14 +476,18 @@ rehearse-spec =
     put-arrival-requires
     mul-seat-2
     element-set-from-seat-2
-    mul-front-2
-    element-set-from-front-2
+    store-front-requires-2
     loop-less-3
     loop-again-3
     scan-requires
     jump-from-requires
     put-spans-requires
+    ran-by-requires
+    add-desk-3
     loop-less-4
     loop-again-4
     same-length
+    same-length-2
+    same-length-3
+    same-length-4
     returns)

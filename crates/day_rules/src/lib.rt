@@ -1,0 +1,1 @@
+// The rules of a rehearsal's day, tick by tick: definitions and laws alone.
