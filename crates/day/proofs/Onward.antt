@@ -16,7 +16,8 @@ use Rattle.instants.specs.Seen.{idle}
 use Rattle.goings.specs.Going.{noGoing}
 use Rattle.instants.specs.Goings.{goingsOf}
 use Rattle.instants.proofs.GoingsAt.{goings-long, goings-past, goings-at}
-use Rattle.day.specs.Desk.{Desk, runOf, choiceAt, numberOf, looksAt, lookedAt, spansEnd}
+use Rattle.day_rules.specs.Spans.{spansEnd}
+use Rattle.day.specs.Desk.{Desk, runOf, choiceAt, numberOf, looksAt, lookedAt}
 use Rattle.day.proofs.Looked.{choice-by, number-by, looked-states, looked-works, looked-long, looked-at, looked-past}
 
 module _ (pl : Plan) (t : ℕ) (d : Desk) (ss : List Seen) (n : ℕ) (wide : n ≤ length (d .going))

@@ -119,11 +119,6 @@ hasCore t p i n d = record {
   said = d .said ++ spanEnd p (runOf d p) i n t;
 }
 
--- the spans of the first n cores that end at t, where runs hs have the cores after gs
-abbrev pub spansEnd : List Going → List Going → ℕ → ℕ → List Event
-spansEnd gs hs t zero = []
-spansEnd gs hs t (suc p) = let h = getD hs p noGoing in spansEnd gs hs t p ++ spanEnd p (getD gs p noGoing) (h .task) (h .run) t
-
 -- core p is looked at
 unfoldable pub looksAt : Plan → ℕ → ℕ → Desk → Desk
 looksAt pl t p d = let i = choiceAt pl t d p in hasCore t p i (numberOf d i) d

@@ -15,7 +15,7 @@ use Rattle.day_lines.specs.declared.Event.the-variants.{Refused, Spanned}
 use Rattle.day_lines.specs.Lines.{eventText, eventsText}
 use Rattle.day_window.proofs.Saying.{alone}
 use Rattle.day_rules.specs.Day.{ran, spanEnd}
-use Rattle.day.specs.Desk.{spansEnd}
+use Rattle.day_rules.specs.Spans.{spansEnd}
 
 -- an arrival: nothing is said of it, or its refusal
 module _ {no : ℕ} (k i : ℕ) (t : Ticks) where

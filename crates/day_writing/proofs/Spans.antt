@@ -21,7 +21,7 @@ use Rattle.day_lines.specs.Lines.{eventsText}
 use Rattle.day_window.specs.Window.{Windowed}
 use Rattle.day_window.proofs.Saying.{Saying, begun, onward, all}
 use Rattle.day_rules.specs.Day.{spanEnd}
-use Rattle.day.specs.Desk.{spansEnd}
+use Rattle.day_rules.specs.Spans.{spansEnd}
 use Rattle.day_writing.proofs.Said.{spans-more}
 
 module _ (xs : List ℕ) (ss : List Seen) (t n : ℕ) where

@@ -20,7 +20,7 @@ ghost use Rattle.day_lines.specs.Lines.{eventsText};
 ghost use Rattle.day_window.specs.Window.{Windowed};
 ghost use Rattle.day_lines.specs.declared.Event.the-variants.{Refused};
 ghost use Rattle.day_rules.specs.Day.{spanEnd};
-ghost use Rattle.day.specs.Desk.{spansEnd};
+ghost use Rattle.day_rules.specs.Spans.{spansEnd};
 ghost use Rattle.goings.specs.Rows.{goingsIn};
 ghost use Rattle.instants.specs.Goings.{goingsOf, goneOn};
 

@@ -31,7 +31,8 @@ use Rattle.day_window.specs.Window.{Windowed}
 use Rattle.day_window.proofs.Windows.{none, then, recast}
 use Rattle.day_lines.proofs.Events.{events-append}
 use Rattle.day_rules.specs.Day.{Day, goingAt, spanEnd, closes, runsLeft, unfinished, dayAt, eventsOf, dayText}
-use Rattle.day.specs.Desk.{lineOf, stateOf, boxOf, deskOf, spansEnd, deskAt}
+use Rattle.day_rules.specs.Spans.{spansEnd}
+use Rattle.day.specs.Desk.{lineOf, stateOf, boxOf, deskOf, deskAt}
 use Rattle.day.specs.Desk as model
 use Rattle.day.proofs.At.{stands-at}
 use Rattle.day.proofs.Day.{is-at}

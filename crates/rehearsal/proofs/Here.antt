@@ -32,7 +32,8 @@ use Rattle.instants.specs.Goings.{goingsOf}
 use Rattle.day_lines.specs.declared.Event.the-variants.{Finished, Refused}
 use Rattle.dispatch.proofs.Records.{task-in}
 use Rattle.day_rules.specs.Day.{ran}
-use Rattle.day.specs.Desk.{Desk, lineOf, stateOf, workOf, runOf, boxOf, arrivalNo, takes, choiceAt, numberOf, lookedAt, spansEnd, ranOn, doneOf, endsOn, ends, within, deskAt}
+use Rattle.day_rules.specs.Spans.{spansEnd}
+use Rattle.day.specs.Desk.{Desk, lineOf, stateOf, workOf, runOf, boxOf, arrivalNo, takes, choiceAt, numberOf, lookedAt, ranOn, doneOf, endsOn, ends, within, deskAt}
 use Rattle.day.proofs.Stands.{Stands, Resting, Busy, Ending, state-here, work-here, state-there, work-there, had-are, going-are}
 use Rattle.day.proofs.At.{Fine, cores-wide, state-here as arrived-state, work-here as arrived-work, state-there as other-state, work-there as other-work, had-same, going-same, same-states, same-works, same-had, same-going}
 use Rattle.day.proofs.Within.{core-more, arrival-more, on-arrivals, on-cores, arrivals-all, within-ending, within-stands}

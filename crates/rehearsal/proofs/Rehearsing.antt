@@ -34,7 +34,8 @@ use Rattle.seats.specs.Seat.{seat, freshSeat, noSeat, arrivedOf, endedOf}
 use Rattle.seats.specs.Inner.{Arrivable, Endable}
 use Rattle.day_lines.specs.Lines.{eventText, eventsText}
 use Rattle.day_window.specs.Window.{Windowed}
-use Rattle.day.specs.Desk.{lineOf, stateOf, workOf, boxOf, within, spansEnd, endsOn, takes, freshDesk as modelFresh, deskAt}
+use Rattle.day_rules.specs.Spans.{spansEnd}
+use Rattle.day.specs.Desk.{lineOf, stateOf, workOf, boxOf, within, endsOn, takes, freshDesk as modelFresh, deskAt}
 use Rattle.day.specs.Desk as model
 use Rattle.day.proofs.Stands.{Stands, Resting, Ending, ended-next, state-here, work-here}
 use Rattle.day.proofs.At.{Fine, took-stands, state-here as arrived-state, work-here as arrived-work}
