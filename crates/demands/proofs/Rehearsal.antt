@@ -23,6 +23,8 @@ use Rattle.planning.specs.declared.Plan.{Plan}
 use Rattle.planning.specs.Plan.{planOf}
 use Rattle.planning.specs.Shape.{PlanShaped}
 use Rattle.soundness.specs.Plan.{planSound}
+use Rattle.task_state.specs.State.{runAt}
+use Rattle.task_state.specs.Due.{dueAfter}
 use Rattle.core_choice.specs.Told.{choiceTask}
 use Rattle.dispatch.specs.declared.call.Call.the-variants.{Release, Finish, Look}
 use Rattle.dispatch.specs.Record.{recordOf}
@@ -57,7 +59,13 @@ use Rattle.day_rules.specs.Day.{
   eventsOf,
   dayText,
 }
-use Rattle.day.specs.Desk.{deskOf, arrivedBy, leap, deskAt}
+use Rattle.fronts.specs.declared.Front.{Front}
+use Rattle.fronts.specs.Front.{noFront, frontOf}
+use Rattle.instants.specs.Seen.{seenOf, nextOf, leastLeft}
+use Rattle.run_lengths.specs.Work.{lengthAt}
+use Rattle.day.specs.Desk.{Desk, lineOf, stateOf, workOf, hadOf, choiceAt, deskOf, arrivedBy, leap, deskAt}
+use Rattle.day.proofs.Stands.{Stands, Resting}
+use Rattle.day.proofs.Jump as Jump
 use Rattle.day.proofs.Skip as Skip
 use Rattle.day.proofs.Day.{is-at}
 use Rattle.day.proofs.Example as Example
@@ -273,6 +281,37 @@ pub day-skips : (pl : Plan) → PlanShaped pl → planSound pl ≡ true → (xs 
     → deskOf (dayAt pl xs (t + m)) ≡ leap pl t m (arrivedBy pl xs t (arrivalsIn xs) (deskOf (dayAt pl xs t)))
 day-skips pl shaped sound xs passed t m upto quiet some =
     rw (by-calls pl shaped sound xs passed (t + m) upto, by-calls pl shaped sound xs passed t (omega (arith, upto))) (skips pl xs t m quiet some)
+
+-- how far the code goes from t at once, with the arrivals of t taken, fs what an instant asks of each task, v the next arrival's time or the stop
+module _ (pl : Plan) (shaped : PlanShaped pl) (sound : planSound pl ≡ true) (xs : List ℕ) (passed : arrivalsRefusal pl xs (arrivalsIn xs) ≡ refusal 0 0)
+    (t v : ℕ) (ahead : t < v) (upto : v ≤ 1000000000000) (coming : (j : ℕ) → j < arrivalsIn xs → t < arrivalTime xs j → v ≤ arrivalTime xs j)
+    (fs : List Front) where
+  abbrev at : Desk
+  at = arrivedBy pl xs t (arrivalsIn xs) (deskAt pl xs t)
+
+  abbrev far : ℕ
+  far = leastLeft (seenOf fs (at .had) t (pl .count)) (nextOf fs t v (pl .count) - t) (pl .cores)
+
+  stands : Stands pl t at × Resting pl t at
+  stands = Beneath.taken-stands pl shaped sound xs passed t (omega (arith, ahead, upto))
+
+  module _ (front : (i : ℕ) → i < pl .count → getD fs i noFront ≡ frontOf (lineOf pl i) (stateOf at i) (workOf at i)) where
+    -- some ticks, and no further than the next arrival or the stop
+    pub jump-some : 0 < far
+    jump-some = Jump.jump-some pl xs (Beneath.fine pl shaped sound xs passed) t v ahead upto coming fs (stands .0) (stands .1) front
+
+    pub jump-coming : t + far ≤ v
+    jump-coming = Jump.jump-most pl xs (Beneath.fine pl shaped sound xs passed) t v ahead upto coming fs (stands .0) (stands .1) front
+
+    -- nor than the release time of any stored run that lies ahead
+    pub jump-releases : (i k : ℕ) → i < pl .count → k < stateOf at i .live
+        → let x = runAt (stateOf at i) k .deadline .0 - dueAfter (lineOf pl i) in t < x → t + far ≤ x
+    jump-releases = Jump.jump-releases pl xs (Beneath.fine pl shaped sound xs passed) t v ahead upto coming fs (stands .0) (stands .1) front
+
+    -- nor than the finish of a core's choice
+    pub jump-finishes : (p : ℕ) → p < pl .cores → 0 < choiceAt pl t at p
+        → hadOf at (choiceAt pl t at p - 1) + far ≤ lengthAt (workOf at (choiceAt pl t at p - 1)) 0
+    jump-finishes = Jump.jump-finishes pl xs (Beneath.fine pl shaped sound xs passed) t v ahead upto coming fs (stands .0) (stands .1) front
 
 -- three tasks of 2 3 on 2 cores, each comes once, at 0: finishes at 2 and at 4
 pub three-jobs : eventsOf (planOf 2 (2 ∷ 3 ∷ 2 ∷ 3 ∷ 2 ∷ 3 ∷ []) .plan) (0 ∷ 1 ∷ 2 ∷ 0 ∷ 2 ∷ 2 ∷ 0 ∷ 3 ∷ 2 ∷ []) 4

@@ -1,10 +1,11 @@
 -- What a rehearsal's laws ask, from arrivals of which none is refused, and its calls as calls of a record.
-use Prim.Native.Nat.{ℕ, suc, _+_, _-_}
+use Prim.Native.Nat.{ℕ, suc, _+_, _-_, _≤_}
 use mathlib.Core.Path.{_≡_, sym, ap, _∙_}
 use mathlib.Core.Bool.{true}
 use mathlib.Core.List.{List}
 use native.Mathlib.Numerals.{add-one}
 use native.Mathlib.Omega.{arith}
+use Rattle.units.specs.Limits.{clockLimit}
 use Rattle.units.specs.Units.{ticks}
 use Rattle.units.specs.Refusals.{refusal}
 use Rattle.units.specs.declared.refusal.Refusal.{Refusal}
@@ -23,7 +24,9 @@ use Rattle.dispatch.proofs.OneCall.{release-no, finish-no, look-no}
 use Rattle.arrivals.specs.Arrivals.{arrivalsIn, arrivalTask, arrivalsRefusal}
 use Rattle.arrivals.specs.Fine as Arrivals
 use Rattle.arrivals.proofs.Passed as Passed
-use Rattle.day.proofs.At.{Fine}
+use Rattle.day.specs.Desk.{arrivedBy, deskAt}
+use Rattle.day.proofs.Stands.{Stands, Resting}
+use Rattle.day.proofs.At.{Fine, arrived-stands, stands-at}
 use Rattle.day_words.specs.Words.{Rising}
 
 module _ (pl : Plan) (shaped : PlanShaped pl) (sound : planSound pl ≡ true) (xs : List ℕ)
@@ -44,6 +47,13 @@ module _ (pl : Plan) (shaped : PlanShaped pl) (sound : planSound pl ≡ true) (x
             let n = lined pl (shaped .lines) sound (arrivalTask xs k - 1) (omega (arith, f .task-from k l, f .task-to k l)) in
             omega (arith, f .fits k l, n .cost, n .period);
       }
+
+  -- at each instant, once its arrivals are taken
+  pub taken-stands : (t : ℕ) → t ≤ clockLimit
+      → let d = arrivedBy pl xs t (arrivalsIn xs) (deskAt pl xs t) in Stands pl t d × Resting pl t d
+  taken-stands t l =
+      let s = stands-at pl xs fine t l in
+      arrived-stands pl xs fine t (arrivalsIn xs) (deskAt pl xs t) (omega arith) (s .0) (s .1)
 
   -- times do not fall
   pub rising : Rising xs
