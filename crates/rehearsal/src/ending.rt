@@ -14,10 +14,11 @@ ghost use Rattle.day_window.specs.Window.{Windowed};
 ghost use Rattle.day_rules.specs.Day.{dayText};
 ghost use Rattle.rehearsal.specs.Inner.{Rehearsable};
 
-// Numbers of all fronts, and of all runs that have the cores.
-const FRONTS: usize = 448;
+// Numbers of all fronts.
+const FRONTS: usize = 7 * TASKS;
 
-const GOINGS: usize = 48;
+// Numbers of all runs that have the cores.
+const GOINGS: usize = 3 * CORES;
 
 // All that a rehearsal says, in a window of its text.
 pub fn write_day(plan: Plan, arrivals: &[u64], stop: Ticks, skip: usize, out: &mut [u8]) -> usize

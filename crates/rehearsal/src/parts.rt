@@ -57,7 +57,7 @@ pub(crate) fn fresh_fronts(plan: Plan, fronts: &mut [u64])
     }
 }
 
-// After a jump: the instant, and the next core whose run may be done.
+// How many ticks a jump takes, and the next core whose run may be done then.
 pub(crate) struct Jump {
     pub more: u64,
     pub core: usize,
