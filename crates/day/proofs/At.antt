@@ -15,6 +15,7 @@ use Rattle.units.specs.Limits.{coresLimit, tasksLimit, clockLimit, periodLimit,
 use Rattle.planning.specs.declared.Plan.{Plan}
 use Rattle.planning.specs.Shape.{PlanShaped}
 use Rattle.soundness.specs.Plan.{planSound}
+use Rattle.soundness.proofs.Lined.{lined}
 use Rattle.soundness.proofs.Facts.{cores-few}
 use Rattle.task_state.specs.State.{freshState, noState}
 use Rattle.task_state.specs.Due.{releaseAt}
@@ -28,6 +29,7 @@ use Rattle.dispatch.proofs.Fresh.{fresh-good}
 use Rattle.dispatch.proofs.SoundFacts.{sound-facts}
 use Rattle.dispatch.proofs.Records.{task-in, task-lined, task-wide, task-shaped, task-sound, moved-good}
 use Rattle.arrivals.specs.Arrivals.{arrivalsIn, arrivalTime, arrivalTask, arrivalLength}
+use Rattle.arrivals.specs.Fine as Arrivals
 use Rattle.run_lengths.specs.Work.{freshWork, noWork, lengthAt, withLength}
 use Rattle.day.specs.Desk.{Desk, lineOf, stateOf, workOf, hadOf, runOf, boxOf, arrivalNo, takes, arrivedBy, choiceAt, lookedAt, ranOn, doneOf, ends, endedBy, leap, freshDesk, deskAt}
 use Rattle.day.proofs.Kept.{Kept, fresh-kept, with-kept}
@@ -255,6 +257,19 @@ pub record Fine (pl : Plan) (xs : List ℕ) : Type 0 where
   pub to : (k : ℕ) → k < arrivalsIn xs → arrivalTask xs k ≤ pl .count
   pub some : (k : ℕ) → k < arrivalsIn xs → 1 ≤ arrivalLength xs k
   pub fits : (k : ℕ) → k < arrivalsIn xs → arrivalLength xs k ≤ periodLimit
+
+-- arrivals of which none is refused are such
+pub fine-of : {pl : Plan} {xs : List ℕ} → PlanShaped pl → planSound pl ≡ true → Arrivals.Fine pl xs (arrivalsIn xs) → Fine pl xs
+fine-of {pl} {xs} shaped sound f = record {
+  shaped = shaped;
+  sound = sound;
+  from = f .task-from;
+  to = f .task-to;
+  some = f .some;
+  fits = λ k l.
+      let n = lined pl (shaped .lines) sound (arrivalTask xs k - 1) (omega (arith, f .task-from k l, f .task-to k l)) in
+      omega (arith, f .fits k l, n .cost, n .period);
+}
 
 module _ (pl : Plan) (xs : List ℕ) (f : Fine pl xs) where
   -- the first n arrivals

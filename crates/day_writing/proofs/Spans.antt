@@ -35,12 +35,12 @@ module _ (xs : List ℕ) (ss : List Seen) (t n : ℕ) where
 
   -- who has the first k cores is stored, and the spans that end there are written
   pub record Ending (before : List ℕ) (skip at : ℕ) (now ys : List ℕ) (end k : ℕ) : Type 0 where
-    pub saying : Saying said n before skip at now end k
+    pub saying : Saying 180 said n before skip at now end k
     pub gone : ys ≡ goneOn xs ss t k
 
   pub start : (before : List ℕ) (skip at : ℕ) → Ending before skip at before xs at 0
   unfolding goneOn
-  start before skip at = record { saying = begun said n before skip at refl; gone = refl }
+  start before skip at = record { saying = begun 180 said n before skip at refl; gone = refl }
 
   module _ (wide : length xs ≡ 3 * coresLimit) (few : n ≤ coresLimit) (k : ℕ) (l : k < n) where
     -- what had core k, and what has it
@@ -71,7 +71,7 @@ module _ (xs : List ℕ) (ss : List Seen) (t n : ℕ) where
         → g ≡ goingAt ys k → h ≡ goesAt k g → Windowed now skip end (eventsText (spanEnd k g (h .task) (h .run) t)) now′ end′
         → end′ ≤ end + 180 → zs ≡ putGoing ys k h → Ending before skip at now′ zs end′ (k + 1)
     more {g = g} {h = h} e p q w b z = record {
-      saying = onward said n (e .saying) (spanEnd k g (h .task) (h .run) t) l (next-span (rw (e .gone) at p) q) w b refl;
+      saying = onward 180 said n (e .saying) (spanEnd k g (h .task) (h .run) t) l (next-span (rw (e .gone) at p) q) w b refl;
       gone = next-gone (e .gone) p q z;
     }
 
@@ -85,4 +85,4 @@ module _ (xs : List ℕ) (ss : List Seen) (t n : ℕ) where
     whole l =
         let s = e .saying in
         let m = le-antisymm (s .inside) l in
-        (all said n s l, (omega (arith, s .near, m), e .gone ∙ ap (goneOn xs ss t) m))
+        (all 180 said n s l, (omega (arith, s .near, m), e .gone ∙ ap (goneOn xs ss t) m))

@@ -18,7 +18,6 @@ use Rattle.units.specs.Limits.{coresLimit, tasksLimit, clockLimit}
 use Rattle.planning.specs.declared.Plan.{Plan}
 use Rattle.soundness.proofs.Facts.{ruled, cores-few, tasks-few, weight-small, shares-sum}
 use Rattle.soundness.proofs.Numbers.{numbers}
-use Rattle.soundness.proofs.Lined.{lined}
 use Rattle.task_state.specs.State.{freshState, noState}
 use Rattle.state_rules.proofs.Facts.{facts, unfinished, releasable}
 use Rattle.dispatch.proofs.SoundFacts.{sound-facts, due-small}
@@ -38,7 +37,7 @@ use Rattle.day_rules.specs.Spans.{spansEnd}
 use Rattle.day.specs.Desk.{lineOf, stateOf, workOf, boxOf, within, endsOn, takes, freshDesk as modelFresh, deskAt}
 use Rattle.day.specs.Desk as model
 use Rattle.day.proofs.Stands.{Stands, Resting, Ending, ended-next, state-here, work-here}
-use Rattle.day.proofs.At.{Fine, took-stands, state-here as arrived-state, work-here as arrived-work}
+use Rattle.day.proofs.At.{Fine, fine-of as fine-from, took-stands, state-here as arrived-state, work-here as arrived-work}
 use Rattle.day.proofs.Skip.{arrived-none}
 use Rattle.goings.specs.Inner.{Addable}
 use Rattle.instants.proofs.Next.{next-some, next-most}
@@ -70,16 +69,7 @@ use Rattle.day.proofs.Looked.{goes-task}
 
 -- what is asked is what the laws ask
 pub fine-of : {pl : Plan} {xs : List ℕ} {stop : ℕ} → Rehearsable pl xs stop → Fine pl xs
-fine-of {pl} {xs} q = record {
-  shaped = q .shaped;
-  sound = q .sound;
-  from = q .fine .task-from;
-  to = q .fine .task-to;
-  some = q .fine .some;
-  fits = λ k l.
-      let n = lined pl (q .shaped .lines) (q .sound) (arrivalTask xs k - 1) (omega (arith, q .fine .task-from k l, q .fine .task-to k l)) in
-      omega (arith, q .fine .fits k l, n .cost, n .period);
-}
+fine-of q = fine-from (q .shaped) (q .sound) (q .fine)
 
 pub some-core : {pl : Plan} {xs : List ℕ} {stop : ℕ} → Rehearsable pl xs stop → 0 < pl .cores
 some-core {pl} q = numbers pl (ruled pl (q .sound) .numbers) .cores-some

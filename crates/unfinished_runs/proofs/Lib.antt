@@ -1,3 +1,2 @@
 pub mod Left
-pub mod Leaving
 pub mod Settled

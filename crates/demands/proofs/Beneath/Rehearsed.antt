@@ -12,7 +12,6 @@ use Rattle.units.specs.declared.refusal.Refusal.{Refusal}
 use Rattle.planning.specs.declared.Plan.{Plan}
 use Rattle.planning.specs.Shape.{PlanShaped}
 use Rattle.soundness.specs.Plan.{planSound}
-use Rattle.soundness.proofs.Lined.{lined}
 use Rattle.dispatch.specs.declared.Record.{Record}
 use Rattle.dispatch.specs.declared.call.Call.the-variants.{Release, Finish, Look}
 use Rattle.dispatch.specs.Release.{releaseOf}
@@ -21,12 +20,12 @@ use Rattle.dispatch.specs.Look.{lookOf}
 use Rattle.dispatch.specs.Calls.{callRefusal}
 use Rattle.dispatch.proofs.Answers.{release-answer, finish-answer, look-answer}
 use Rattle.dispatch.proofs.OneCall.{release-no, finish-no, look-no}
-use Rattle.arrivals.specs.Arrivals.{arrivalsIn, arrivalTask, arrivalsRefusal}
+use Rattle.arrivals.specs.Arrivals.{arrivalsIn, arrivalsRefusal}
 use Rattle.arrivals.specs.Fine as Arrivals
 use Rattle.arrivals.proofs.Passed as Passed
 use Rattle.day.specs.Desk.{arrivedBy, deskAt}
 use Rattle.day.proofs.Stands.{Stands, Resting}
-use Rattle.day.proofs.At.{Fine, arrived-stands, stands-at}
+use Rattle.day.proofs.At.{Fine, fine-of, arrived-stands, stands-at}
 use Rattle.day_words.specs.Words.{Rising}
 
 module _ (pl : Plan) (shaped : PlanShaped pl) (sound : planSound pl ≡ true) (xs : List ℕ)
@@ -35,18 +34,7 @@ module _ (pl : Plan) (shaped : PlanShaped pl) (sound : planSound pl ≡ true) (x
   arrive-fine = Passed.fine pl xs (arrivalsIn xs) (ap (λ (x : Refusal). x .no) passed)
 
   pub fine : Fine pl xs
-  fine =
-      let f = arrive-fine in
-      record {
-        shaped = shaped;
-        sound = sound;
-        from = f .task-from;
-        to = f .task-to;
-        some = f .some;
-        fits = λ k l.
-            let n = lined pl (shaped .lines) sound (arrivalTask xs k - 1) (omega (arith, f .task-from k l, f .task-to k l)) in
-            omega (arith, f .fits k l, n .cost, n .period);
-      }
+  fine = fine-of shaped sound arrive-fine
 
   -- at each instant, once its arrivals are taken
   pub taken-stands : (t : ℕ) → t ≤ clockLimit

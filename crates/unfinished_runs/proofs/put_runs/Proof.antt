@@ -12,7 +12,7 @@ use Rattle.unfinished_runs.proofs.put_runs.Statement.{statement}
 use Rattle.unfinished_runs.proofs.put_runs.Tie as tie
 
 abbrev Inv-loop : tie.InvT-loop
-Inv-loop out₀ skip at task state work had live end₀ k₀ out end k = Saying (runsLeft state work had task) (state .live) out₀ skip at out end k
+Inv-loop out₀ skip at task state work had live end₀ k₀ out end k = Saying 180 (runsLeft state work had task) (state .live) out₀ skip at out end k
 
 abbrev μ-loop : tie.MeasureT-loop
 μ-loop out₀ skip at task state work had live end₀ k₀ out end k = state .live - k
@@ -21,7 +21,7 @@ cast-live : tie.Need-cast-live Inv-loop μ-loop
 cast-live c = search needs
 
 loop-holds : tie.Need-loop-holds Inv-loop μ-loop
-loop-holds c = let s = c .before .before .args in begun (runsLeft (s .state) (s .work) (s .had) (s .task)) (s .state .live) _ _ _ refl
+loop-holds c = let s = c .before .before .args in begun 180 (runsLeft (s .state) (s .work) (s .had) (s .task)) (s .state .live) _ _ _ refl
 
 put-run-requires : tie.Need-put-run-requires Inv-loop μ-loop
 put-run-requires c κs = search needs
@@ -39,7 +39,7 @@ loop-again c =
     let l = i .before in
     let s = l .before .before .before .args in
     let e = runLeft (s .state) (s .work) (s .had) (s .task) (l .loop .k) in
-    onward (runsLeft (s .state) (s .work) (s .had) (s .task)) (s .state .live) (l .loop .inv) (e ∷ []) (i .loop-test .taken)
+    onward 180 (runsLeft (s .state) (s .work) (s .had) (s .task)) (s .state .live) (l .loop .inv) (e ∷ []) (i .loop-test .taken)
     (runs-more (s .state) (s .work) (s .had) (s .task) (l .loop .k)) (recast (alone e) (r .put-run .ensures .0)) (r .put-run .ensures .1) refl
 
 same-length : tie.Need-same-length Inv-loop μ-loop
@@ -49,7 +49,7 @@ returns : tie.Need-returns Inv-loop μ-loop
 returns c =
     let l = c .before in
     let s = l .before .before .before .args in
-    (all (runsLeft (s .state) (s .work) (s .had) (s .task)) (s .state .live) (l .loop .inv) (c .loop-test .left), search needs)
+    (all 180 (runsLeft (s .state) (s .work) (s .had) (s .task)) (s .state .live) (l .loop .inv) (c .loop-test .left), search needs)
 
 pub put-runs-spec : {M : Type 1} → statement M
 put-runs-spec =

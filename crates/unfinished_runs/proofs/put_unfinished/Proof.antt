@@ -1,22 +1,25 @@
 -- `unfinished_runs::put_unfinished` meets its contract.
-use Prim.Native.Nat.{_-_}
+use Prim.Native.Nat.{_-_, _*_}
 use mathlib.Core.Path.{refl}
 use native.Mathlib.Omega.{arith}
 use native.Mathlib.Numerals.{add-one}
 use Rattle.day_window.proofs.Windows.{kept}
-use Rattle.unfinished_runs.proofs.Leaving.{Leaving, begun, onward, all, left-one}
+use Rattle.day_window.proofs.Saying.{Saying, begun, onward, all}
+use Rattle.units.specs.Limits.{runsLimit}
+use Rattle.unfinished_runs.specs.Left.{leftBy}
+use Rattle.unfinished_runs.proofs.Left.{left-more}
 use borrow.Author.Needs.{needs}
 use Rattle.unfinished_runs.proofs.put_unfinished.Statement.{statement}
 use Rattle.unfinished_runs.proofs.put_unfinished.Tie as tie
 
 abbrev Inv-loop : tie.InvT-loop
-Inv-loop out₀ skip at count had seats end₀ i₀ out end i = Leaving seats had count out₀ skip at out end i
+Inv-loop out₀ skip at count had seats end₀ i₀ out end i = Saying (180 * runsLimit) (leftBy seats had) count out₀ skip at out end i
 
 abbrev μ-loop : tie.MeasureT-loop
 μ-loop out₀ skip at count had seats end₀ i₀ out end i = count - i
 
 loop-holds : tie.Need-loop-holds Inv-loop μ-loop
-loop-holds c = let s = c .before .before .args in begun (s .t5) (s .had .now) (s .count) _ _ _
+loop-holds c = let s = c .before .before .args in begun (180 * runsLimit) (leftBy (s .t5) (s .had .now)) (s .count) _ _ _ refl
 
 mul-seat : tie.Need-mul-seat Inv-loop μ-loop
 mul-seat c = search needs
@@ -56,8 +59,8 @@ loop-again c =
     let l = i .before in
     let s = l .before .before .before .args in
     let k = l .loop .i in
-    onward (s .t5) (s .had .now) (s .count) (l .loop .inv) (i .loop-test .taken) (r .put-runs .ensures .0) (r .put-runs .ensures .1) refl
-    (left-one (s .t5) (s .had .now) k (add-one k))
+    onward (180 * runsLimit) (leftBy (s .t5) (s .had .now)) (s .count) (l .loop .inv) _ (i .loop-test .taken)
+    (left-more (s .t5) (s .had .now) k (add-one k)) (r .put-runs .ensures .0) (r .put-runs .ensures .1) refl
 
 same-length : tie.Need-same-length Inv-loop μ-loop
 same-length c = kept (c .before .loop .inv .wrote)
@@ -66,7 +69,7 @@ returns : tie.Need-returns Inv-loop μ-loop
 returns c =
     let l = c .before in
     let s = l .before .before .before .args in
-    (all (s .t5) (s .had .now) (s .count) (l .loop .inv) (c .loop-test .left), search needs)
+    (all (180 * runsLimit) (leftBy (s .t5) (s .had .now)) (s .count) (l .loop .inv) (c .loop-test .left), search needs)
 
 pub put-unfinished-spec : {M : Type 1} → statement M
 put-unfinished-spec =
