@@ -1,6 +1,8 @@
 pub mod Rounding
 pub mod Euclid
 pub mod Multiple
+pub mod Halving
+pub mod Bits
 pub mod Table
 pub mod Common
 pub mod Cofactor

@@ -42,7 +42,7 @@ unfolding lcm
 lcm-times a b = omega (arith, ap (λ (x : ℕ). x * b) (div-mul-cancel (gcd a b) (gcd-left a b)))
 
 -- the divisor of m times two numbers divides m times their divisor
-gcd-scaled : (m a b : ℕ) → 0 < m → gcd (m * a) (m * b) ∣ m * gcd a b
+pub gcd-scaled : (m a b : ℕ) → 0 < m → gcd (m * a) (m * b) ∣ m * gcd a b
 gcd-scaled m a b h = go (gcd (m * a) (m * b) / m) (mul-div-cancel' m (gcd-greatest (m * a) (m * b) m (dvd-mul-right m a) (dvd-mul-right m b)))
   where
     go : (x : ℕ) → m * x ≡ gcd (m * a) (m * b) → gcd (m * a) (m * b) ∣ m * gcd a b

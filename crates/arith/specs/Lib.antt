@@ -1,3 +1,4 @@
+pub mod Bits
 pub mod Ceiling
 pub mod Divisor
 pub mod Period
