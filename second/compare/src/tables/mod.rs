@@ -6,6 +6,7 @@ mod fit;
 mod full;
 mod light;
 mod limit;
+mod shared;
 mod single;
 mod small;
 pub mod table;
@@ -14,11 +15,12 @@ use crate::random::Random;
 use table::Table;
 
 /// Tables that are taken, or just not: every fault is one of weights or common period.
-const GOOD: [fn(&mut Random) -> Table; 8] = [
+const GOOD: [fn(&mut Random) -> Table; 9] = [
     small::table,
     small::table,
     limit::within,
     limit::over,
+    shared::table,
     chain::table,
     full::table,
     light::table,
