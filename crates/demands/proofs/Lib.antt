@@ -7,6 +7,7 @@ pub mod Demand2
 pub mod Runs
 pub mod Demand3
 pub mod Early
+pub mod Divisor
 pub mod Examples
 pub mod Host
 pub mod Office
