@@ -40,6 +40,6 @@ takes-one-off = bits-half
 pub less-and-halved : (m n : ℕ) → m ≤ n → 0 < n → bitsOf (m / 2) < bitsOf n
 less-and-halved = half-fewer
 
--- so two numbers of 32 bits take at most 64 halvings
+-- so two numbers of 32 bits have room for at most 64 halvings
 pub at-most-64 : (a b : ℕ) → a < 2 ^ 32 → b < 2 ^ 32 → halvings a b ≤ 64
 at-most-64 = halvings-most
