@@ -8,14 +8,14 @@ use native.Mathlib.Omega.{arith}
 use lib.Dec.{ltb, eqb}
 use lib.ListN.{length}
 use borrow.Author.Tests.{eqb-true, eqb-false, ltb-true, ltb-false}
-use Rattle.units.specs.Limits.{coresLimit, tasksLimit, periodLimit}
+use Rattle.units.specs.Limits.{cores_limit, tasks_limit, period_limit}
 use Rattle.lists.specs.Lists.{total}
 use Rattle.lists.proofs.Tests.{by_cases}
-use Rattle.arith.specs.Period.{periods, periodOf}
+use Rattle.arith.specs.Period.{periods, period_of}
 use Rattle.arith.specs.declared.period.Period.{Period}
 use Rattle.arith.specs.declared.period.Period.TheVariants.{Common, Over}
-use Rattle.arith.proofs.Within.{period-common, period-over}
-use Rattle.admission.specs.Words.{CoresIn, CoresOut, TableIn, TableOut, tasks, cost, period, commonOf, weightsOf, RangeIn, RangeOut, CostOver, Fine}
+use Rattle.arith.proofs.Within.{period_common, period_over}
+use Rattle.admission.specs.Words.{CoresIn, CoresOut, TableIn, TableOut, tasks, cost, period, common_of, weights_of, RangeIn, RangeOut, CostOver, Fine}
 use Rattle.admission.specs.Given.{Tested, Reached, Given, none, one, two, three, four, five, six}
 
 -- a number is 0 or not
@@ -23,12 +23,12 @@ zero_or : (n : ℕ) → (n ≡ 0) ⊎ (0 < n)
 zero_or n = by_cases (eqb n 0) (λ e. inl (eqb-true n 0 e)) (λ e. inr (pos_of_ne-zero (eqb-false n 0 e)))
 
 -- it is above a limit or not
-above-or : (b n : ℕ) → (b < n) ⊎ (n ≤ b)
-above-or b n = by_cases (ltb b n) (λ e. inl (ltb-true b n e)) (λ e. inr (ltb-false b n e))
+above_or : (b n : ℕ) → (b < n) ⊎ (n ≤ b)
+above_or b n = by_cases (ltb b n) (λ e. inl (ltb-true b n e)) (λ e. inr (ltb-false b n e))
 
 -- the core count is out of range or in it
 cores : (m : ℕ) → CoresOut m ⊎ CoresIn m
-cores m = ⊎_elim (λ e. inl (inl e)) (λ p. ⊎_elim (λ h. inl (inr h)) (λ h. inr (p, h)) (above-or coresLimit m)) (zero_or m)
+cores m = ⊎_elim (λ e. inl (inl e)) (λ p. ⊎_elim (λ h. inl (inr h)) (λ h. inr (p, h)) (above_or cores_limit m)) (zero_or m)
 
 -- so is the table
 table : (xs : List ℕ) → TableOut xs ⊎ TableIn xs
@@ -39,7 +39,7 @@ table xs =
     (λ p. ⊎_elim
     (λ h. inl (inr (inl h)))
     (λ h. ⊎_elim (λ e. inr (p, h, e)) (λ o. inl (inr (inr (omega arith)))) (zero_or (n % 2)))
-    (above-or (2 * tasksLimit) n))
+    (above_or (2 * tasks_limit) n))
     (zero_or n)
 
 -- and task k
@@ -49,7 +49,7 @@ range xs k =
     (λ e. inl (inl e))
     (λ p. ⊎_elim
     (λ e. inl (inr (inl e)))
-    (λ q. ⊎_elim (λ h. inl (inr (inr h))) (λ h. inr (p, q, h)) (above-or periodLimit (period xs k)))
+    (λ q. ⊎_elim (λ h. inl (inr (inr h))) (λ h. inr (p, q, h)) (above_or period_limit (period xs k)))
     (zero_or (period xs k)))
     (zero_or (cost xs k))
 
@@ -64,20 +64,20 @@ AllFine xs n = (k : ℕ) → k < n → Fine xs k
 -- a task is faulty or not
 fault : (xs : List ℕ) (k : ℕ) → Faulty xs k ⊎ Fine xs k
 fault xs k =
-    ⊎_elim (λ o. inl (inl o)) (λ r. ⊎_elim (λ c. inl (inr (r, c))) (λ c. inr (r, c)) (above-or (period xs k) (cost xs k))) (range xs k)
+    ⊎_elim (λ o. inl (inl o)) (λ r. ⊎_elim (λ c. inl (inr (r, c))) (λ c. inr (r, c)) (above_or (period xs k) (cost xs k))) (range xs k)
 
 -- one more
-fine-suc : (xs : List ℕ) (n : ℕ) → AllFine xs n → Fine xs n → AllFine xs (suc n)
-fine-suc xs n f p k h = ⊎_elim (λ b. f k b) (λ b. let e : k ≡ n = omega arith in rw e p) (above-or k n)
+fine_suc : (xs : List ℕ) (n : ℕ) → AllFine xs n → Fine xs n → AllFine xs (suc n)
+fine_suc xs n f p k h = ⊎_elim (λ b. f k b) (λ b. let e : k ≡ n = omega arith in rw e p) (above_or k n)
 
 -- some task of the first n is the first that is faulty, or none is
-first-fault : (xs : List ℕ) (n : ℕ) → ((k : ℕ) × (k < n) × AllFine xs k × Faulty xs k) ⊎ AllFine xs n
-first-fault xs zero = inr (λ k h. absurd (omega arith))
-first-fault xs (suc n) =
+first_fault : (xs : List ℕ) (n : ℕ) → ((k : ℕ) × (k < n) × AllFine xs k × Faulty xs k) ⊎ AllFine xs n
+first_fault xs zero = inr (λ k h. absurd (omega arith))
+first_fault xs (suc n) =
     ⊎_elim
     (λ f. inl (f.0, omega (arith, f.1), f.2, f.3))
-    (λ f. ⊎_elim (λ b. inl (n, omega arith, f, b)) (λ p. inr (fine-suc xs n f p)) (fault xs n))
-    (first-fault xs n)
+    (λ f. ⊎_elim (λ b. inl (n, omega arith, f, b)) (λ p. inr (fine_suc xs n f p)) (fault xs n))
+    (first_fault xs n)
 
 -- some row applies
 abbrev Some : ℕ → List ℕ → Type 0
@@ -85,21 +85,21 @@ Some m xs = (n : ℕ) × (i : ℕ) × Given m xs n i
 
 module _ (m : ℕ) (xs : List ℕ) where
   -- of a faulty task
-  of-fault : (k : ℕ) → Reached m xs k → Faulty xs k → Some m xs
-  of-fault k r (inl o) = (3, suc k, three r o)
-  of-fault k r (inr p) = (4, suc k, four r p.0 p.1)
+  of_fault : (k : ℕ) → Reached m xs k → Faulty xs k → Some m xs
+  of_fault k r (inl o) = (3, suc k, three r o)
+  of_fault k r (inr p) = (4, suc k, four r p.0 p.1)
 
   -- of the common period and the sum
-  of-tested : Tested m xs → Some m xs
-  of-tested t = go (periodOf (periods xs)) refl
+  of_tested : Tested m xs → Some m xs
+  of_tested t = go (period_of (periods xs)) refl
     where
-      go : (p : Period) → periodOf (periods xs) ≡ p → Some m xs
-      go (Over k) e = (5, k, five t (period-over (periods xs) k e))
+      go : (p : Period) → period_of (periods xs) ≡ p → Some m xs
+      go (Over k) e = (5, k, five t (period_over (periods xs) k e))
       go (Common l) e =
-          let q = period-common (periods xs) l e in
+          let q = period_common (periods xs) l e in
           ⊎_elim (λ h. (6, 0, six t (omega arith) h))
           (λ h. (0, 0, none (record { cores = t.cores; table = t.table; ranges = t.ranges; costs = t.costs; within = omega arith; fit = h })))
-          (above-or (m * commonOf xs) (total (weightsOf xs)))
+          (above_or (m * common_of xs) (total (weights_of xs)))
 
   -- tested in order
   pub applies : Some m xs
@@ -109,8 +109,8 @@ module _ (m : ℕ) (xs : List ℕ) where
       (λ c. ⊎_elim
       (λ o. (2, 0, two c o))
       (λ t. ⊎_elim
-      (λ f. of-fault f.0 (record { cores = c; table = t; there = f.1; before = f.2 }) f.3)
-      (λ f. of-tested (record { cores = c; table = t; ranges = λ k h. (f k h).0; costs = λ k h. (f k h).1 }))
-      (first-fault xs (tasks xs)))
+      (λ f. of_fault f.0 (record { cores = c; table = t; there = f.1; before = f.2 }) f.3)
+      (λ f. of_tested (record { cores = c; table = t; ranges = λ k h. (f k h).0; costs = λ k h. (f k h).1 }))
+      (first_fault xs (tasks xs)))
       (table xs))
       (cores m)

@@ -1,7 +1,7 @@
 // Whether a table is taken.
 ghost use Rattle.std.specs.Prelude.{◌≡◌};
-ghost use Rattle.admission.specs.Refusals.{inputTest};
-ghost use Rattle.admission.specs.Admission.{refusedWith, admissionOf};
+ghost use Rattle.admission.specs.Refusals.{input_test};
+ghost use Rattle.admission.specs.Admission.{refused_with, admission_of};
 
 use crate::refusals::input_test;
 use crate::weights::weigh;
@@ -19,7 +19,7 @@ pub struct Admission {
 }
 
 fn refused(refusal: Refusal) -> Admission
-    ensures { result ≡ refusedWith refusal }
+    ensures { result ≡ refused_with refusal }
 {
     Admission {
         refusal: refusal,
@@ -30,8 +30,8 @@ fn refused(refusal: Refusal) -> Admission
 
 // Tests 5 and 6, of a table that has passed the others.
 fn admit_tasks(cores: u32, table: &[u32]) -> Admission
-    requires { (inputTest cores table.now).no ≡ 0 }
-    ensures { result ≡ admissionOf cores table.now }
+    requires { (input_test cores table.now).no ≡ 0 }
+    ensures { result ≡ admission_of cores table.now }
 {
     match common_period(table) {
         Period::Over(k) => refused(Refusal {
@@ -58,7 +58,7 @@ fn admit_tasks(cores: u32, table: &[u32]) -> Admission
 
 // The first refusal that applies, of 1 to 6; or the common period and the weights.
 pub fn admit(cores: u32, table: &[u32]) -> Admission
-    ensures { result ≡ admissionOf cores table.now }
+    ensures { result ≡ admission_of cores table.now }
 {
     let first = input_test(cores, table);
     if first.no != 0 {

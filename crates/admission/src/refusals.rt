@@ -1,6 +1,6 @@
 // Planning's refusals, by number.
 ghost use Rattle.std.specs.Prelude.{◌≡◌};
-ghost use Rattle.admission.specs.Refusals.{coresTest, tableTest, taskTest, tasksTest, inputTest};
+ghost use Rattle.admission.specs.Refusals.{cores_test, table_test, task_test, tasks_test, input_test};
 
 use crate::table::no_table;
 use units::limits::{CORES, PERIOD};
@@ -8,7 +8,7 @@ use units::refusal::Refusal;
 
 // Refusal 1.
 fn cores_test(cores: u32) -> Refusal
-    ensures { result ≡ coresTest cores }
+    ensures { result ≡ cores_test cores }
 {
     if (cores == 0) | ((CORES as u32) < cores) {
         return Refusal {
@@ -21,7 +21,7 @@ fn cores_test(cores: u32) -> Refusal
 
 // Refusal 2.
 fn table_test(table: &[u32]) -> Refusal
-    ensures { result ≡ tableTest table.now }
+    ensures { result ≡ table_test table.now }
 {
     if no_table(table.len()) {
         return Refusal {
@@ -34,7 +34,7 @@ fn table_test(table: &[u32]) -> Refusal
 
 // Refusals 3 and 4 of task i.
 fn task_test(i: usize, cost: u32, period: u32) -> Refusal
-    ensures { result ≡ taskTest i cost period }
+    ensures { result ≡ task_test i cost period }
 {
     if (cost == 0) | (period == 0) | (PERIOD < period) {
         return Refusal {
@@ -53,7 +53,7 @@ fn task_test(i: usize, cost: u32, period: u32) -> Refusal
 
 // Refusals 3 and 4: the first faulty task decides and is named.
 fn tasks_test(table: &[u32]) -> Refusal
-    ensures { result ≡ tasksTest 1 table.now }
+    ensures { result ≡ tasks_test 1 table.now }
 {
     let n = table.len() / 2;
     let mut k: usize = 0;
@@ -69,7 +69,7 @@ fn tasks_test(table: &[u32]) -> Refusal
 
 // Refusals 1 to 4.
 pub(crate) fn input_test(cores: u32, table: &[u32]) -> Refusal
-    ensures { result ≡ inputTest cores table.now }
+    ensures { result ≡ input_test cores table.now }
 {
     let first = cores_test(cores);
     if first.no != 0 {

@@ -3,7 +3,7 @@ ghost use Rattle.std.specs.Prelude.{◌≡◌, ◌≤◌, ◌<◌};
 ghost use Rattle.std.specs.Int.{◌∣◌};
 ghost use Rattle.lists.specs.Lists.{total as sum_of};
 ghost use Rattle.units.specs.Units.{nums};
-ghost use Rattle.admission.specs.Weight.{weight, weights as weightsOf, padded};
+ghost use Rattle.admission.specs.Weight.{weight, weights as weights_of, padded};
 ghost use Rattle.admission.specs.Inner.{Weighable};
 
 use units::limits::TASKS;
@@ -26,7 +26,7 @@ fn weight_of(common: u32, cost: u32, period: u32) -> Share
 
 pub(crate) fn weigh(table: &[u32], common: u32) -> Weighed
     requires { Weighable common table.now }
-    ensures { (nums result.weights ≡ padded (weightsOf common table.now)) × (result.sum.0 ≡ sum_of (weightsOf common table.now)) }
+    ensures { (nums result.weights ≡ padded (weights_of common table.now)) × (result.sum.0 ≡ sum_of (weights_of common table.now)) }
 {
     let n = table.len() / 2;
     let mut weights = [Share::EMPTY; TASKS];

@@ -8,37 +8,37 @@ use native.Mathlib.Omega.{arith}
 use lib.ListN.{length, get_or}
 use Rattle.arith.specs.Divisor.{gcd}
 use Rattle.arith.specs.Period.{common}
-use Rattle.arith.proofs.Euclid.{gcd-left, gcd-right, gcd-greatest}
-use Rattle.arith.proofs.Common.{Each, common-each, common-least}
+use Rattle.arith.proofs.Euclid.{gcd_left, gcd_right, gcd_greatest}
+use Rattle.arith.proofs.Common.{Each, common_each, common_least}
 
 -- the greatest common divisor of a list, 0 of none
-abbrev pub gcdAll : List ℕ → ℕ
-gcdAll [] = 0
-gcdAll (x ∷ xs) = gcd (gcdAll xs) x
+abbrev pub gcd_all : List ℕ → ℕ
+gcd_all [] = 0
+gcd_all (x ∷ xs) = gcd (gcd_all xs) x
 
 -- how often each period goes into l
 abbrev pub cofactors : ℕ → List ℕ → List ℕ
 cofactors l ts = map (λ (t : ℕ). l / t) ts
 
 -- it divides each quotient
-all-divides : (l : ℕ) (ts : List ℕ) → Each (λ t. gcdAll (cofactors l ts) ∣ l / t) ts
-all-divides l [] i h = absurd (omega arith)
-all-divides l (t ∷ ts) zero h = gcd-right (gcdAll (cofactors l ts)) (l / t)
-all-divides l (t ∷ ts) (suc i) h =
-    dvd_trans (gcdAll (cofactors l (t ∷ ts))) (gcd-left (gcdAll (cofactors l ts)) (l / t)) (all-divides l ts i (omega arith))
+all_divides : (l : ℕ) (ts : List ℕ) → Each (λ t. gcd_all (cofactors l ts) ∣ l / t) ts
+all_divides l [] i h = absurd (omega arith)
+all_divides l (t ∷ ts) zero h = gcd_right (gcd_all (cofactors l ts)) (l / t)
+all_divides l (t ∷ ts) (suc i) h =
+    dvd_trans (gcd_all (cofactors l (t ∷ ts))) (gcd_left (gcd_all (cofactors l ts)) (l / t)) (all_divides l ts i (omega arith))
 
 -- every number that divides each quotient divides it
-all-greatest : (l : ℕ) (ts : List ℕ) (d : ℕ) → Each (λ t. d ∣ l / t) ts → d ∣ gcdAll (cofactors l ts)
-all-greatest l [] d e = dvd-zero d
-all-greatest l (t ∷ ts) d e =
-    gcd-greatest (gcdAll (cofactors l ts)) (l / t) d (all-greatest l ts d (λ i h. e (suc i) (omega arith))) (e 0 (omega arith))
+all_greatest : (l : ℕ) (ts : List ℕ) (d : ℕ) → Each (λ t. d ∣ l / t) ts → d ∣ gcd_all (cofactors l ts)
+all_greatest l [] d e = dvd-zero d
+all_greatest l (t ∷ ts) d e =
+    gcd_greatest (gcd_all (cofactors l ts)) (l / t) d (all_greatest l ts d (λ i h. e (suc i) (omega arith))) (e 0 (omega arith))
 
 module _ (l : ℕ) (ts : List ℕ) where
   -- every period divides l, and the quotients have no common divisor: l is the common period
-  pub cofactor-common : Each (λ t. t ∣ l) ts → gcdAll (cofactors l ts) ≡ 1 → l ≡ common ts
-  cofactor-common e g =
-      let m : l / common ts * common ts ≡ l = div-mul_cancel (common ts) (common-least ts l e) in
-      let one : l / common ts ∣ 1 = rw g at (all-greatest l ts (l / common ts) (λ i h. quotient (l / common ts) (get_or ts i 0) m (common-each ts i h))) in
+  pub cofactor_common : Each (λ t. t ∣ l) ts → gcd_all (cofactors l ts) ≡ 1 → l ≡ common ts
+  cofactor_common e g =
+      let m : l / common ts * common ts ≡ l = div-mul_cancel (common ts) (common_least ts l e) in
+      let one : l / common ts ∣ 1 = rw g at (all_greatest l ts (l / common ts) (λ i h. quotient (l / common ts) (get_or ts i 0) m (common_each ts i h))) in
       sym m ∙ ap (λ (d : ℕ). d * common ts) (eq-one_of_dvd-one one) ∙ one-mul (common ts)
     where
       -- d divides the quotient of its multiple l
@@ -46,11 +46,11 @@ module _ (l : ℕ) (ts : List ℕ) where
       quotient d t m k = rw (← m, mul-div_assoc t d k) (dvd-mul_right d (common ts / t))
 
   -- l is the common period: the quotients have no common divisor
-  pub common-cofactor : 0 < l → 0 < length ts → l ≡ common ts → gcdAll (cofactors l ts) ≡ 1
-  common-cofactor h k e = go (gcdAll (cofactors l ts)) (all-divides l ts)
+  pub common_cofactor : 0 < l → 0 < length ts → l ≡ common ts → gcd_all (cofactors l ts) ≡ 1
+  common_cofactor h k e = go (gcd_all (cofactors l ts)) (all_divides l ts)
     where
       divides : (i : ℕ) → i < length ts → get_or ts i 0 ∣ l
-      divides i b = rw e (common-each ts i b)
+      divides i b = rw e (common_each ts i b)
 
       go : (g : ℕ) → Each (λ t. g ∣ l / t) ts → g ≡ 1
       go g d =
@@ -60,9 +60,9 @@ module _ (l : ℕ) (ts : List ℕ) where
           let each : Each (λ t. t ∣ l / g) ts =
           λ i b. dvd_of_mul-dvd-mul_right {k = g} (get_or ts i 0) pos
           (rw (m, ← (mul-div_cancel' (get_or ts i 0) (divides i b))) (mul-dvd-mul_left g (get_or ts i 0) (d i b))) in
-          let back : l / g * g ∣ l / g * 1 = rw (m, mul-one (l / g)) (rw (← e) at (common-least ts (l / g) each)) in
+          let back : l / g * g ∣ l / g * 1 = rw (m, mul-one (l / g)) (rw (← e) at (common_least ts (l / g) each)) in
           eq-one_of_dvd-one (dvd_of_mul-dvd-mul_left {k = l / g} g (pos_of_dvd_of_pos (rw m at (dvd-mul_right (l / g) g)) h) back)
 
   -- both: every period divides l and the quotients have no common divisor, exactly if l is the common period
-  pub cofactor-exact : 0 < l → 0 < length ts → (Each (λ t. t ∣ l) ts × (gcdAll (cofactors l ts) ≡ 1)) ↔ (l ≡ common ts)
-  cofactor-exact h k = ((λ b. cofactor-common b.0 b.1), (λ e. ((λ i b. rw e (common-each ts i b)), common-cofactor h k e)))
+  pub cofactor_exact : 0 < l → 0 < length ts → (Each (λ t. t ∣ l) ts × (gcd_all (cofactors l ts) ≡ 1)) ↔ (l ≡ common ts)
+  cofactor_exact h k = ((λ b. cofactor_common b.0 b.1), (λ e. ((λ i b. rw e (common_each ts i b)), common_cofactor h k e)))

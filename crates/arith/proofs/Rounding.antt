@@ -4,23 +4,23 @@ use mathlib.Core.Path.{◌≡◌, sym}
 use mathlib.Core.Logic.{◌↔◌}
 use native.Mathlib.Nat.{div-add-mod', mod-lt, div-eq_of_lt-le, div-lt_iff_lt-mul, le-mul_of_pos_right}
 use native.Mathlib.Omega.{arith}
-use Rattle.arith.specs.Ceiling.{ceilDiv}
+use Rattle.arith.specs.Ceiling.{ceil_div}
 
 -- the least number of times that b has to be taken to reach a
-pub ceil-least : (a b k : ℕ) → 0 < b → (ceilDiv a b ≤ k) ↔ (a ≤ k * b)
-ceil-least a b k h = (
-  λ (l : ceilDiv a b ≤ k). let g : a + (b - 1) < (k + 1) * b = (div-lt_iff_lt-mul h).0 (omega arith) in omega arith,
-  λ (l : a ≤ k * b). let g : ceilDiv a b < k + 1 = (div-lt_iff_lt-mul h).1 (omega arith) in omega arith,
+pub ceil_least : (a b k : ℕ) → 0 < b → (ceil_div a b ≤ k) ↔ (a ≤ k * b)
+ceil_least a b k h = (
+  λ (l : ceil_div a b ≤ k). let g : a + (b - 1) < (k + 1) * b = (div-lt_iff_lt-mul h).0 (omega arith) in omega arith,
+  λ (l : a ≤ k * b). let g : ceil_div a b < k + 1 = (div-lt_iff_lt-mul h).1 (omega arith) in omega arith,
 )
 
 -- the quotient, if nothing is left over
-pub ceil-exact : (a b : ℕ) → 0 < b → a % b ≡ 0 → a / b ≡ ceilDiv a b
-ceil-exact a b h r = sym (div-eq_of_lt-le b (omega (arith, div-add-mod' a b)) (omega (arith, div-add-mod' a b)))
+pub ceil_exact : (a b : ℕ) → 0 < b → a % b ≡ 0 → a / b ≡ ceil_div a b
+ceil_exact a b h r = sym (div-eq_of_lt-le b (omega (arith, div-add-mod' a b)) (omega (arith, div-add-mod' a b)))
 
 -- one more than the quotient, if something is
-pub ceil-more : (a b : ℕ) → 0 < b → 0 < a % b → a / b + 1 ≡ ceilDiv a b
-ceil-more a b h r = sym (div-eq_of_lt-le b (omega (arith, div-add-mod' a b)) (omega (arith, div-add-mod' a b, mod-lt a h)))
+pub ceil_more : (a b : ℕ) → 0 < b → 0 < a % b → a / b + 1 ≡ ceil_div a b
+ceil_more a b h r = sym (div-eq_of_lt-le b (omega (arith, div-add-mod' a b)) (omega (arith, div-add-mod' a b, mod-lt a h)))
 
 -- which is no more than a
-pub quotient-room : (a b : ℕ) → 0 < b → 0 < a % b → a / b + 1 ≤ a
-quotient-room a b h r = omega (arith, div-add-mod' a b, le-mul_of_pos_right (a / b) h)
+pub quotient_room : (a b : ℕ) → 0 < b → 0 < a % b → a / b + 1 ≤ a
+quotient_room a b h r = omega (arith, div-add-mod' a b, le-mul_of_pos_right (a / b) h)

@@ -5,11 +5,11 @@ use Rattle.arith.proofs.ceiling.ceil_div.Reads as CeilDiv
 use Rattle.arith.proofs.divisor.gcd.Reads as Gcd
 use Rattle.arith.proofs.period.common_period.Reads as CommonPeriod
 
-pub ceil-div : Settled CeilDiv.Post
-ceil-div κs a x y e f p q = p ∙ sym q
+pub ceil_div_lem : Settled CeilDiv.Post
+ceil_div_lem κs a x y e f p q = p ∙ sym q
 
 pub gcd : Settled Gcd.Post
 gcd κs a x y e f p q = p ∙ sym q
 
-pub common-period : Settled CommonPeriod.Post
-common-period κs a x y e f p q = p ∙ sym q
+pub common_period_lem : Settled CommonPeriod.Post
+common_period_lem κs a x y e f p q = p ∙ sym q

@@ -2,5 +2,5 @@
 use Rattle.std.specs.Prelude.{ℕ, ◌+◌, ◌-◌, ◌/◌}
 
 -- a / b, rounded up
-abbrev pub ceilDiv : ℕ → ℕ → ℕ
-ceilDiv a b = (a + (b - 1)) / b
+abbrev pub ceil_div : ℕ → ℕ → ℕ
+ceil_div a b = (a + (b - 1)) / b

@@ -1,10 +1,10 @@
 // Division rounded up.
 ghost use Rattle.std.specs.Prelude.{◌≡◌};
-ghost use Rattle.arith.specs.Ceiling.{ceilDiv};
+ghost use Rattle.arith.specs.Ceiling.{ceil_div};
 
 // a / b rounded up, 0 where b is 0.
 pub fn ceil_div(a: u64, b: u64) -> u64
-    ensures { result ≡ ceilDiv a b }
+    ensures { result ≡ ceil_div a b }
 {
     if b == 0 {
         return 0;

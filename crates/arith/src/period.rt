@@ -1,6 +1,6 @@
 // The common period of a table of tasks.
 ghost use Rattle.std.specs.Prelude.{◌≡◌};
-ghost use Rattle.arith.specs.Period.{periods, periodOf};
+ghost use Rattle.arith.specs.Period.{periods, period_of};
 
 use crate::divisor::lcm;
 use units::limits::COMMON;
@@ -15,7 +15,7 @@ pub enum Period {
 
 // The common period of a table, cost then period for each task.
 pub fn common_period(table: &[u32]) -> Period
-    ensures { result ≡ periodOf (periods table.now) }
+    ensures { result ≡ period_of (periods table.now) }
 {
     let n = table.len() / 2;
     let mut l: u32 = 1;

@@ -10,7 +10,7 @@ use Rattle.lists.proofs.Tests.{by_cases}
 use Rattle.units.specs.Refusals.{refusal}
 use Rattle.units.specs.declared.refusal.Refusal.{Refusal}
 use Rattle.planning.specs.declared.Plan.{Plan}
-use Rattle.arrivals.specs.Arrivals.{arrivalTests, refusalFrom, arrivalsRefusal}
+use Rattle.arrivals.specs.Arrivals.{arrival_tests, refusal_from, arrivals_refusal}
 use Rattle.arrivals.specs.Fine.{First}
 
 module _ (pl : Plan) (xs : List ℕ) where
@@ -19,11 +19,11 @@ module _ (pl : Plan) (xs : List ℕ) where
     j : ℕ
     there : j < n
     named : m ≡ i + j + 1
-    gives : arrivalTests pl xs (i + j) ≡ r
-    before : (l : ℕ) → l < j → arrivalTests pl xs (i + l) ≡ 0
+    gives : arrival_tests pl xs (i + j) ≡ r
+    before : (l : ℕ) → l < j → arrival_tests pl xs (i + l) ≡ 0
 
   -- one that passes stands before it
-  further : (i n r m : ℕ) → arrivalTests pl xs i ≡ 0 → FirstFrom (i + 1) n r m → FirstFrom i (suc n) r m
+  further : (i n r m : ℕ) → arrival_tests pl xs i ≡ 0 → FirstFrom (i + 1) n r m → FirstFrom i (suc n) r m
   further i n r m e f = record {
     j = suc f.j;
     there = omega (arith, f.there);
@@ -32,16 +32,16 @@ module _ (pl : Plan) (xs : List ℕ) where
     before = early;
   }
     where
-      early : (l : ℕ) → l < suc f.j → arrivalTests pl xs (i + l) ≡ 0
+      early : (l : ℕ) → l < suc f.j → arrival_tests pl xs (i + l) ≡ 0
       early zero h = let z : i + 0 ≡ i = omega arith in rw z e
       early (suc l) h = let z : i + suc l ≡ i + 1 + l = omega arith in rw z (f.before l (omega arith))
 
-  from-refused : (i n r m : ℕ) → (r ≡ 0 → ⊥) → refusalFrom pl xs i n ≡ refusal r m → FirstFrom i n r m
-  unfolding refusalFrom
-  from-refused i zero r m f e = absurd (f (sym (ap (λ (x : Refusal). x.no) e)))
-  from-refused i (suc n) r m f e =
-      by_cases (eqb (arrivalTests pl xs i) 0)
-      (λ h. further i n r m (eqb-true _ 0 h) (from-refused (i + 1) n r m f (rw h at e)))
+  from_refused : (i n r m : ℕ) → (r ≡ 0 → ⊥) → refusal_from pl xs i n ≡ refusal r m → FirstFrom i n r m
+  unfolding refusal_from
+  from_refused i zero r m f e = absurd (f (sym (ap (λ (x : Refusal). x.no) e)))
+  from_refused i (suc n) r m f e =
+      by_cases (eqb (arrival_tests pl xs i) 0)
+      (λ h. further i n r m (eqb-true _ 0 h) (from_refused (i + 1) n r m f (rw h at e)))
       (λ h.
       let g = rw (h, h) at e in
       let z : i + 0 ≡ i = omega arith in
@@ -53,41 +53,41 @@ module _ (pl : Plan) (xs : List ℕ) where
         before = λ l k. absurd (omega arith);
       })
 
-  from_first : (i n r j : ℕ) → (r ≡ 0 → ⊥) → j < n → arrivalTests pl xs (i + j) ≡ r → ((l : ℕ) → l < j → arrivalTests pl xs (i + l) ≡ 0)
-      → refusalFrom pl xs i n ≡ refusal r (i + j + 1)
-  unfolding refusalFrom
+  from_first : (i n r j : ℕ) → (r ≡ 0 → ⊥) → j < n → arrival_tests pl xs (i + j) ≡ r → ((l : ℕ) → l < j → arrival_tests pl xs (i + l) ≡ 0)
+      → refusal_from pl xs i n ≡ refusal r (i + j + 1)
+  unfolding refusal_from
   from_first i zero r j f h g b = absurd (omega arith)
   from_first i (suc n) r zero f h g b =
       let z : i + 0 ≡ i = omega arith in
-      let e : arrivalTests pl xs i ≡ r = rw z at g in
+      let e : arrival_tests pl xs i ≡ r = rw z at g in
       rw (e, ne_eqb r 0 f, ne_eqb r 0 f, z) refl
   from_first i (suc n) r (suc j) f h g b =
       let z : i + 0 ≡ i = omega arith in
-      let e : arrivalTests pl xs i ≡ 0 = rw z at (b 0 (omega arith)) in
+      let e : arrival_tests pl xs i ≡ 0 = rw z at (b 0 (omega arith)) in
       let y : i + suc j ≡ i + 1 + j = omega arith in
       rw (e, y) (from_first (i + 1) n r j f (omega arith) (rw y at g)
       (λ l k. let w : i + suc l ≡ i + 1 + l = omega arith in rw w at (b (suc l) (omega arith))))
 
   -- of the first n
-  pub refused-exactly : (n r k : ℕ) → (r ≡ 0 → ⊥) → (arrivalsRefusal pl xs n ≡ refusal r (k + 1)) ↔ First pl xs n r k
-  unfolding arrivalsRefusal
-  refused-exactly n r k f = (to, back)
+  pub refused_exactly : (n r k : ℕ) → (r ≡ 0 → ⊥) → (arrivals_refusal pl xs n ≡ refusal r (k + 1)) ↔ First pl xs n r k
+  unfolding arrivals_refusal
+  refused_exactly n r k f = (to, back)
     where
       zero_more : (j : ℕ) → 0 + j ≡ j
       zero_more j = omega arith
 
-      to : refusalFrom pl xs 0 n ≡ refusal r (k + 1) → First pl xs n r k
+      to : refusal_from pl xs 0 n ≡ refusal r (k + 1) → First pl xs n r k
       to e =
-          let g = from-refused 0 n r (k + 1) f e in
+          let g = from_refused 0 n r (k + 1) f e in
           let z : g.j ≡ k = omega (arith, g.named) in
           record {
             there = omega (arith, g.there);
-            gives = ap (arrivalTests pl xs) (sym (zero_more g.j ∙ z)) ∙ g.gives;
-            before = λ l h. ap (arrivalTests pl xs) (sym (zero_more l)) ∙ g.before l (omega arith);
+            gives = ap (arrival_tests pl xs) (sym (zero_more g.j ∙ z)) ∙ g.gives;
+            before = λ l h. ap (arrival_tests pl xs) (sym (zero_more l)) ∙ g.before l (omega arith);
           }
 
-      back : First pl xs n r k → refusalFrom pl xs 0 n ≡ refusal r (k + 1)
+      back : First pl xs n r k → refusal_from pl xs 0 n ≡ refusal r (k + 1)
       back g =
-          from_first 0 n r k f g.there (ap (arrivalTests pl xs) (zero_more k) ∙ g.gives)
-          (λ l h. ap (arrivalTests pl xs) (zero_more l) ∙ g.before l h)
+          from_first 0 n r k f g.there (ap (arrival_tests pl xs) (zero_more k) ∙ g.gives)
+          (λ l h. ap (arrival_tests pl xs) (zero_more l) ∙ g.before l h)
           ∙ ap (λ (m : ℕ). refusal r (m + 1)) (zero_more k)

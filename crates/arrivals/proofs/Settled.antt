@@ -4,8 +4,8 @@ use Rattle.lists.specs.Settled.{Settled}
 use Rattle.arrivals.proofs.arrival_tests.Reads as ArrivalTests
 use Rattle.arrivals.proofs.arrivals_refusal.Reads as ArrivalsRefusal
 
-pub arrival-tests : Settled ArrivalTests.Post
-arrival-tests κs a x y e f p q = p ∙ sym q
+pub arrival_tests_lem : Settled ArrivalTests.Post
+arrival_tests_lem κs a x y e f p q = p ∙ sym q
 
-pub arrivals-refusal : Settled ArrivalsRefusal.Post
-arrivals-refusal κs a x y e f p q = p ∙ sym q
+pub arrivals_refusal_lem : Settled ArrivalsRefusal.Post
+arrivals_refusal_lem κs a x y e f p q = p ∙ sym q

@@ -1,6 +1,6 @@
 // Testing the arrivals of a day: a lent list of numbers, three to an arrival: its time, its task from 1 and its length.
 ghost use Rattle.std.specs.Prelude.{◌≡◌};
-ghost use Rattle.arrivals.specs.Arrivals.{arrivalsIn, testsOf, arrivalsRefusal};
+ghost use Rattle.arrivals.specs.Arrivals.{arrivals_in, tests_of, arrivals_refusal};
 ghost use Rattle.arrivals.specs.Inner.{place_of};
 
 use planning::Plan;
@@ -20,7 +20,7 @@ pub fn arrival_tests(
     before: u64,
     time: u64,
 ) -> u32
-    ensures { result ≡ testsOf k count task cost length before time }
+    ensures { result ≡ tests_of k count task cost length before time }
 {
     let tasks = count as u64;
     let outside = (task == 0) | (tasks < task);
@@ -45,7 +45,7 @@ fn place_of(task: u64) -> usize
 
 // The first arrival that is refused, named from 1.
 pub fn arrivals_refusal(plan: Plan, arrivals: &[u64]) -> Refusal
-    ensures { result ≡ arrivalsRefusal plan arrivals.now (arrivalsIn arrivals.now) }
+    ensures { result ≡ arrivals_refusal plan arrivals.now (arrivals_in arrivals.now) }
 {
     let n = arrivals.len() / 3;
     let mut before = 0;

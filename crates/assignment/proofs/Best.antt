@@ -10,27 +10,27 @@ use lib.Seq.{take-suc, take_all, length-take-le, get_or-take}
 use borrow.Author.Tests.{leb-true, leb-false, le-leb, lt-leb}
 use Rattle.lists.specs.Lists.{most, at_most}
 use Rattle.lists.proofs.Tests.{by_cases}
-use Rattle.lists.proofs.Lists.{most-some, atMost-is}
+use Rattle.lists.proofs.Lists.{most_some, at_most_is}
 
 -- the largest, with one more number at the end
-most-snoc : (xs : List ℕ) (x : ℕ) → most (xs ++ x ∷ []) ≡ max (most xs) x
-most-snoc [] x = omega arith
-most-snoc (y ∷ xs) x = omega (arith, most-snoc xs x)
+most_snoc : (xs : List ℕ) (x : ℕ) → most (xs ++ x ∷ []) ≡ max (most xs) x
+most_snoc [] x = omega arith
+most_snoc (y ∷ xs) x = omega (arith, most_snoc xs x)
 
 -- a larger number at the end is the first largest
 higher : (xs : List ℕ) (x : ℕ) → most xs < x → at_most (xs ++ x ∷ []) ≡ length xs
 higher [] x h = rw (le-leb 0 x (omega arith))
-higher (y ∷ xs) x h = rw (lt-leb (most (xs ++ x ∷ [])) y (omega (arith, most-snoc xs x))) (ap suc (higher xs x (omega arith)))
+higher (y ∷ xs) x h = rw (lt-leb (most (xs ++ x ∷ [])) y (omega (arith, most_snoc xs x))) (ap suc (higher xs x (omega arith)))
 
 -- one that is no larger changes nothing
 lower : (xs : List ℕ) (x : ℕ) → 0 < length xs → x ≤ most xs → at_most (xs ++ x ∷ []) ≡ at_most xs
 lower [] x k h = absurd (omega arith)
 lower (y ∷ xs) x k h =
     by_cases (leb (most xs) y)
-    (λ e. rw (e, le-leb (most (xs ++ x ∷ [])) y (omega (arith, leb-true (most xs) y e, most-snoc xs x))))
+    (λ e. rw (e, le-leb (most (xs ++ x ∷ [])) y (omega (arith, leb-true (most xs) y e, most_snoc xs x))))
     (λ e.
     let f = leb-false (most xs) y e in
-    rw (e, lt-leb (most (xs ++ x ∷ [])) y (omega (arith, most-snoc xs x))) (ap suc (lower xs x (most-some xs y f) (omega arith))))
+    rw (e, lt-leb (most (xs ++ x ∷ [])) y (omega (arith, most_snoc xs x))) (ap suc (lower xs x (most_some xs y f) (omega arith))))
 
 -- best is where the largest of the first i numbers stands first, and top that number
 pub record Best (xs : List ℕ) (best top i : ℕ) : Type 0 where
@@ -53,18 +53,18 @@ last xs best top i b h = b.is ∙ ap at_most (take_all i xs h)
 
 module _ (xs : List ℕ) (best top i : ℕ) (b : Best xs best top i) (h : i < length xs) where
   -- it is the largest so far
-  top-most : top ≡ most (take i xs)
-  top-most =
+  top_most : top ≡ most (take i xs)
+  top_most =
       b.there
       ∙ sym (get_or-take i xs best 0 b.within)
       ∙ ap (λ (k : ℕ). get_or (take i xs) k 0) b.is
-      ∙ atMost-is (take i xs)
+      ∙ at_most_is (take i xs)
 
   -- the next number is larger
   pub better : (x : ℕ) → x ≡ get_or xs i 0 → top < x → Best xs i x (i + 1)
   better x e k = record {
     within = omega arith;
-    is = rw (add-one i, take-suc xs i 0 h, higher (take i xs) (get_or xs i 0) (omega (arith, top-most))) (sym (length-take-le i xs (omega arith)));
+    is = rw (add-one i, take-suc xs i 0 h, higher (take i xs) (get_or xs i 0) (omega (arith, top_most))) (sym (length-take-le i xs (omega arith)));
     there = e;
   }
 
@@ -76,7 +76,7 @@ module _ (xs : List ℕ) (best top i : ℕ) (b : Best xs best top i) (h : i < le
       add-one i,
       take-suc xs i 0 h,
       lower (take i xs) (get_or xs i 0) (omega (arith, length-take-le i xs (omega arith), b.within))
-          (omega (arith, top-most)),
+          (omega (arith, top_most)),
     ) b.is;
     there = b.there;
   }

@@ -16,8 +16,8 @@ use Rattle.assignment.specs.Passes.{give, behind, onward}
 -- of the room of the cores from core b on (m in all) a task of weight w is given its shares: the pointer is now at core p, and need is what it still needs
 pub record Giving (m w b : ℕ) (room row left : List ℕ) (need p : ℕ) : Type 0 where
   pub below : p ≤ m
-  pub row-long : length row ≡ m
-  pub left-long : length left ≡ m
+  pub row_long : length row ≡ m
+  pub left_long : length left ≡ m
   pub pointer : b + behind w room ≡ p + behind need (drop p left)
   pub kept : onward w room ≡ onward need (drop p left)
   -- while it needs more, the row is blank from the pointer on
@@ -35,19 +35,19 @@ pub record Step (m : ℕ) (left : List ℕ) (need p v u n : ℕ) : Type 0 where
   pub more : n ≡ need - get_or left p 0
 
 -- a task that needs no more is given nothing
-give-none : (rs : List ℕ) → give 0 rs ≡ zeros (length rs)
-give-none [] = refl
-give-none (r ∷ rs) = let a : min 0 r ≡ 0 = omega arith in rw (le-ltb r 0 (omega arith), a)
+give_none : (rs : List ℕ) → give 0 rs ≡ zeros (length rs)
+give_none [] = refl
+give_none (r ∷ rs) = let a : min 0 r ≡ 0 = omega arith in rw (le-ltb r 0 (omega arith), a)
 
 -- it leaves no core behind
-behind-none : (rs : List ℕ) → behind 0 rs ≡ 0
-behind-none [] = refl
-behind-none (r ∷ rs) = rw (le-ltb r 0 (omega arith))
+behind_none : (rs : List ℕ) → behind 0 rs ≡ 0
+behind_none [] = refl
+behind_none (r ∷ rs) = rw (le-ltb r 0 (omega arith))
 
 -- and takes nothing away
-onward-none : (rs : List ℕ) → onward 0 rs ≡ rs
-onward-none [] = refl
-onward-none (r ∷ rs) = let a : r - 0 ≡ r = omega arith in rw (le-ltb r 0 (omega arith), a)
+onward_none : (rs : List ℕ) → onward 0 rs ≡ rs
+onward_none [] = refl
+onward_none (r ∷ rs) = let a : r - 0 ≡ r = omega arith in rw (le-ltb r 0 (omega arith), a)
 
 -- the task needs more, and there is a core left
 pub going : (need p m : ℕ) → (ltb 0 need && ltb p m) ≡ true → (0 < need) × (p < m)
@@ -62,29 +62,29 @@ start m w b left h k =
     let parts : zeros m ≡ zeros b ++ rest = ap zeros n ∙ sym (replicate-append-replicate {A = ℕ} b (length (drop b left)) 0) in
     record {
       below = h;
-      row-long = length-replicate {A = ℕ} m 0;
-      left-long = k;
+      row_long = length-replicate {A = ℕ} m 0;
+      left_long = k;
       pointer = refl;
       kept = refl;
       given = λ some. rw (parts, take_at (zeros b) rest b long);
       blank = λ some. rw (parts, drop_at (zeros b) rest b long);
-      whole = λ none. rw (none, give-none (drop b left), parts);
+      whole = λ none. rw (none, give_none (drop b left), parts);
     }
 
 module _ (m w b : ℕ) (room row left : List ℕ) (need p : ℕ) (g : Giving m w b room row left need p) where
   module _ (v u n : ℕ) (s : Step m left need p v u n) where
     -- the core at the pointer, and those after it
     cons : drop p left ≡ get_or left p 0 ∷ drop (suc p) left
-    cons = drop-cons left p 0 (omega (arith, s.low, g.left-long))
+    cons = drop-cons left p 0 (omega (arith, s.low, g.left_long))
 
     after : drop (suc p) (set left p u) ≡ drop (suc p) left
     after = drop-set-lt (suc p) left p u (omega arith)
 
     -- the row is blank there too
-    blank-after : drop (suc p) row ≡ zeros (length (drop (suc p) left))
-    blank-after =
+    blank_after : drop (suc p) row ≡ zeros (length (drop (suc p) left))
+    blank_after =
         tail-eq_of_cons-eq
-        (sym (drop-cons row p 0 (omega (arith, s.low, g.row-long))) ∙ g.blank s.some ∙ ap (λ (l : List ℕ). zeros (length l)) cons)
+        (sym (drop-cons row p 0 (omega (arith, s.low, g.row_long))) ∙ g.blank s.some ∙ ap (λ (l : List ℕ). zeros (length l)) cons)
 
     -- the task needs more: the core is left for the next one
     pub next : 0 < n → Giving m w b room (set row p v) (set left p u) n (p + 1)
@@ -92,21 +92,21 @@ module _ (m w b : ℕ) (room row left : List ℕ) (need p : ℕ) (g : Giving m w
         let over : ltb (get_or left p 0) need ≡ true = lt-ltb (get_or left p 0) need (omega (arith, s.more)) in
         let step : behind need (drop p left) ≡ suc (behind n (drop (suc p) left)) = rw (cons, over, s.more) in
         let on : onward need (drop p left) ≡ onward n (drop (suc p) left) = rw (cons, over, s.more) in
-        let give-on : give need (drop p left) ≡ v ∷ give n (drop (suc p) left) = rw (cons, over, s.more, s.share) in
+        let give_on : give need (drop p left) ≡ v ∷ give n (drop (suc p) left) = rw (cons, over, s.more, s.share) in
         record {
           below = omega (arith, s.low);
-          row-long = length-set row p v ∙ g.row-long;
-          left-long = length-set left p u ∙ g.left-long;
+          row_long = length-set row p v ∙ g.row_long;
+          left_long = length-set left p u ∙ g.left_long;
           pointer = rw (add-one p, after) (omega (arith, g.pointer, step));
           kept = rw (add-one p, after) (g.kept ∙ on);
           given = λ some.
               rw (
                 add-one p,
                 after,
-                take-suc-set row p v (omega (arith, s.low, g.row-long)),
+                take-suc-set row p v (omega (arith, s.low, g.row_long)),
                 append_assoc (take p row) (v ∷ []) (give n (drop (suc p) left)),
-              ) (g.given s.some ∙ ap (λ (l : List ℕ). take p row ++ l) give-on);
-          blank = λ some. rw (add-one p, after) (drop-set-lt (suc p) row p v (omega arith) ∙ blank-after);
+              ) (g.given s.some ∙ ap (λ (l : List ℕ). take p row ++ l) give_on);
+          blank = λ some. rw (add-one p, after) (drop-set-lt (suc p) row p v (omega arith) ∙ blank_after);
           whole = λ none. absurd (omega arith);
         }
 
@@ -116,20 +116,20 @@ module _ (m w b : ℕ) (room row left : List ℕ) (need p : ℕ) (g : Giving m w
         let fits : ltb (get_or left p 0) need ≡ false = le-ltb (get_or left p 0) need (omega (arith, s.more)) in
         let stay : behind need (drop p left) ≡ 0 = rw (cons, fits) in
         let on : onward need (drop p left) ≡ u ∷ drop (suc p) left = rw (cons, fits, s.rest) in
-        let give-on : give need (drop p left) ≡ v ∷ zeros (length (drop (suc p) left)) = rw (cons, fits, s.share) in
-        let low : p < length left = omega (arith, s.low, g.left-long) in
+        let give_on : give need (drop p left) ≡ v ∷ zeros (length (drop (suc p) left)) = rw (cons, fits, s.share) in
+        let low : p < length left = omega (arith, s.low, g.left_long) in
         let now : drop p (set left p u) ≡ u ∷ drop (suc p) left =
         drop-cons (set left p u) p 0 (omega (arith, length-set left p u)) ∙ ap₂ (λ (x : ℕ) (l : List ℕ). x ∷ l) (get_or-set_same left p u 0 low) after in
         record {
           below = g.below;
-          row-long = length-set row p v ∙ g.row-long;
-          left-long = length-set left p u ∙ g.left-long;
-          pointer = rw (none, behind-none (drop p (set left p u))) (omega (arith, g.pointer, stay));
-          kept = rw (none, onward-none (drop p (set left p u)), now) (g.kept ∙ on);
+          row_long = length-set row p v ∙ g.row_long;
+          left_long = length-set left p u ∙ g.left_long;
+          pointer = rw (none, behind_none (drop p (set left p u))) (omega (arith, g.pointer, stay));
+          kept = rw (none, onward_none (drop p (set left p u)), now) (g.kept ∙ on);
           given = λ some. absurd (omega arith);
           blank = λ some. absurd (omega arith);
           whole = λ k.
-              rw (set_split row p v (omega (arith, s.low, g.row-long)), blank-after) (g.given s.some ∙ ap (λ (l : List ℕ). take p row ++ l) give-on);
+              rw (set_split row p v (omega (arith, s.low, g.row_long)), blank_after) (g.given s.some ∙ ap (λ (l : List ℕ). take p row ++ l) give_on);
         }
 
   -- it needs no more, or there is no core left
@@ -138,10 +138,10 @@ module _ (m w b : ℕ) (room row left : List ℕ) (need p : ℕ) (g : Giving m w
       by_cases (ltb 0 need)
       (λ e.
       let past : m ≤ p = ltb-false p m (rw e at end) in
-      let out : drop p left ≡ [] = drop_of_length-le left {i = p} (omega (arith, g.left-long)) in (
+      let out : drop p left ≡ [] = drop_of_length-le left {i = p} (omega (arith, g.left_long)) in (
         sym
             (g.given (ltb-true 0 need e)
-            ∙ ap₂ (λ (a l : List ℕ). a ++ give need l) (take_all p row (omega (arith, g.row-long))) out
+            ∙ ap₂ (λ (a l : List ℕ). a ++ give need l) (take_all p row (omega (arith, g.row_long))) out
             ∙ append-nil row),
         omega (arith, g.pointer, ap (behind need) out),
         out ∙ sym (g.kept ∙ ap (onward need) out),
@@ -149,6 +149,6 @@ module _ (m w b : ℕ) (room row left : List ℕ) (need p : ℕ) (g : Giving m w
       (λ e.
       let none : need ≡ 0 = omega (arith, ltb-false 0 need e) in (
         sym (g.whole none),
-        omega (arith, g.pointer, ap (λ (k : ℕ). behind k (drop p left)) none ∙ behind-none (drop p left)),
-        sym (g.kept ∙ ap (λ (k : ℕ). onward k (drop p left)) none ∙ onward-none (drop p left)),
+        omega (arith, g.pointer, ap (λ (k : ℕ). behind k (drop p left)) none ∙ behind_none (drop p left)),
+        sym (g.kept ∙ ap (λ (k : ℕ). onward k (drop p left)) none ∙ onward_none (drop p left)),
       ))

@@ -4,7 +4,7 @@ use mathlib.Core.Path.{◌≡◌, refl, sym, ap, ◌∙◌}
 use mathlib.Core.List.{List, [], ◌∷◌, map}
 use Rattle.lists.specs.Settled.{Settled}
 use Rattle.units.specs.Units.{units}
-use Rattle.units.proofs.Units.{units-nums}
+use Rattle.units.proofs.Units.{units_nums}
 use Rattle.assignment.specs.declared.Row.{Row}
 use Rattle.assignment.specs.Passes.{rows_of}
 use Rattle.assignment.proofs.shares_of.Reads as SharesOf
@@ -14,10 +14,10 @@ abbrev row : List ℕ → Row
 row ns = record { shares = units ns }
 
 -- rows are the rows with their numbers
-from-numbers : (rs : List Row) → map row (rows_of rs) ≡ rs
-from-numbers [] = refl
-from-numbers (r ∷ rs) =
-    ap (λ (s : Row). s ∷ map row (rows_of rs)) (ap (λ ss. record { shares = ss }) (units-nums r.shares)) ∙ ap (λ (ts : List Row). r ∷ ts) (from-numbers rs)
+from_numbers : (rs : List Row) → map row (rows_of rs) ≡ rs
+from_numbers [] = refl
+from_numbers (r ∷ rs) =
+    ap (λ (s : Row). s ∷ map row (rows_of rs)) (ap (λ ss. record { shares = ss }) (units_nums r.shares)) ∙ ap (λ (ts : List Row). r ∷ ts) (from_numbers rs)
 
-pub shares-of : Settled SharesOf.Post
-shares-of κs a x y e f p q = sym (from-numbers x) ∙ ap (map row) (p ∙ sym q) ∙ from-numbers y
+pub shares_of_lem : Settled SharesOf.Post
+shares_of_lem κs a x y e f p q = sym (from_numbers x) ∙ ap (map row) (p ∙ sym q) ∙ from_numbers y

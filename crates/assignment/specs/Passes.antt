@@ -1,9 +1,9 @@
 -- The two passes of assignment. A core's room is what it has left of L; tasks and cores are counted from 0.
 use Rattle.std.specs.Prelude.{ℕ, suc, ◌+◌, ◌-◌, min, cond, List, [], ◌∷◌, ◌++◌, map, ltb, leb, length, get_or, set, replicate}
-use Rattle.units.specs.Limits.{coresLimit}
+use Rattle.units.specs.Limits.{cores_limit}
 use Rattle.units.specs.Units.{nums}
 use Rattle.lists.specs.Lists.{zeros, most, at_most}
-use Rattle.ordering.specs.Order.{order, inOrder}
+use Rattle.ordering.specs.Order.{order, in_order}
 use Rattle.assignment.specs.declared.Row.{Row}
 
 -- pass one: a task's shares if it is given wholly to core p
@@ -30,9 +30,9 @@ onward n [] = []
 onward n (r ∷ rs) = cond (ltb r n) (onward (n - r) rs) ((r - n) ∷ rs)
 
 -- the shares of tasks of these weights in pass two, with the pointer at core p and this room from there on
-abbrev pub passTwo : ℕ → List ℕ → List ℕ → List (List ℕ)
-passTwo p [] room = []
-passTwo p (w ∷ ws) room = (zeros p ++ give w room) ∷ passTwo (p + behind w room) ws (onward w room)
+abbrev pub pass_two : ℕ → List ℕ → List ℕ → List (List ℕ)
+pass_two p [] room = []
+pass_two p (w ∷ ws) room = (zeros p ++ give w room) ∷ pass_two (p + behind w room) ws (onward w room)
 
 -- the shares in both passes: wholly to the core with the most room, lowest number at a tie; from the first misfit on pass two
 abbrev pub passes : List ℕ → List ℕ → List (List ℕ)
@@ -40,7 +40,7 @@ passes [] room = []
 passes (w ∷ ws) room =
     cond (leb w (most room))
     (whole w (at_most room) room ∷ passes ws (less w (at_most room) room))
-    (passTwo 0 (w ∷ ws) room)
+    (pass_two 0 (w ∷ ws) room)
 
 -- each row put at its task's number
 abbrev pub scatter : List ℕ → List (List ℕ) → List (List ℕ) → List (List ℕ)
@@ -49,16 +49,16 @@ scatter (t ∷ ts) [] tab = tab
 scatter (t ∷ ts) (r ∷ rs) tab = scatter ts rs (set tab t r)
 
 -- n empty rows of m cores
-unfoldable pub emptyRows : ℕ → ℕ → List (List ℕ)
-emptyRows n m = replicate n (zeros m)
+unfoldable pub empty_rows : ℕ → ℕ → List (List ℕ)
+empty_rows n m = replicate n (zeros m)
 
 -- the shares of each task on each core, for the tasks' weights and the cores' room
 unfoldable pub shares_of : List ℕ → List ℕ → List (List ℕ)
-shares_of ws room = scatter (order ws) (passes (inOrder ws) room) (emptyRows (length ws) (length room))
+shares_of ws room = scatter (order ws) (passes (in_order ws) room) (empty_rows (length ws) (length room))
 
 -- the room of m empty cores, each of l units; the others have none
 abbrev pub rooms : ℕ → ℕ → List ℕ
-rooms m l = replicate m l ++ zeros (coresLimit - m)
+rooms m l = replicate m l ++ zeros (cores_limit - m)
 
 -- the numbers of a table of shares
 abbrev pub rows_of : List Row → List (List ℕ)

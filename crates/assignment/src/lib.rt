@@ -3,7 +3,7 @@ ghost use Rattle.std.specs.Prelude.{◌≡◌};
 ghost use Rattle.lists.specs.Lists.{at_most};
 ghost use Rattle.units.specs.Units.{nums};
 ghost use Rattle.assignment.specs.Passes.{shares_of, rows_of};
-ghost use Rattle.assignment.specs.Inner.{assignTwo, assign, from, Among};
+ghost use Rattle.assignment.specs.Inner.{assign_two, assign, from, Among};
 
 use ordering::{Order, order_of};
 use units::limits::{CORES, TASKS};
@@ -42,7 +42,7 @@ fn pass_two(
     rows: [Row; TASKS],
 ) -> [Row; TASKS]
     requires { Among order }
-    ensures { rows_of result ≡ assignTwo 0 (nums weights) (from order k) (nums room.shares) (rows_of rows) }
+    ensures { rows_of result ≡ assign_two 0 (nums weights) (from order k) (nums room.shares) (rows_of rows) }
 {
     let mut table = rows;
     let mut left = room.shares;

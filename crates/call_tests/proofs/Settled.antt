@@ -5,11 +5,11 @@ use Rattle.call_tests.proofs.shared_tests.Reads as SharedTests
 use Rattle.call_tests.proofs.release_tests.Reads as ReleaseTests
 use Rattle.call_tests.proofs.finish_tests.Reads as FinishTests
 
-pub shared-tests : Settled SharedTests.Post
-shared-tests κs a x y e f p q = p ∙ sym q
+pub shared_tests_lem : Settled SharedTests.Post
+shared_tests_lem κs a x y e f p q = p ∙ sym q
 
-pub release-tests : Settled ReleaseTests.Post
-release-tests κs a x y e f p q = p ∙ sym q
+pub release_tests_lem : Settled ReleaseTests.Post
+release_tests_lem κs a x y e f p q = p ∙ sym q
 
-pub finish-tests : Settled FinishTests.Post
-finish-tests κs a x y e f p q = p ∙ sym q
+pub finish_tests_lem : Settled FinishTests.Post
+finish_tests_lem κs a x y e f p q = p ∙ sym q

@@ -1,6 +1,6 @@
 // The call player: a table's text and calls on standard input, a line for each call on standard output.
 ghost use Rattle.std.specs.Prelude.{◌≡◌, length};
-ghost use Rattle.player.specs.Played.{answersLimit};
+ghost use Rattle.player.specs.Played.{answers_limit};
 
 use calls_text::INPUT;
 use player::play::{ANSWERS, play};
@@ -11,7 +11,7 @@ const BYTES: usize = INPUT + 1;
 
 // Zeros for the answers; its contract gives the length alone, so that no proof spells the zeros out.
 fn room() -> [u8; ANSWERS]
-    ensures { answersLimit ≡ length result }
+    ensures { answers_limit ≡ length result }
 {
     [0; ANSWERS]
 }

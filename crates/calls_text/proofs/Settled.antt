@@ -6,14 +6,14 @@ use Rattle.calls_text.proofs.line.line_after.Reads as LineAfter
 use Rattle.calls_text.proofs.calls.calls_place.Reads as CallsPlace
 use Rattle.calls_text.proofs.calls.first_bad.Reads as FirstBad
 
-pub read-call : Settled ReadCall.Post
-read-call κs a x y e f p q = p ∙ sym q
+pub read_call_lem : Settled ReadCall.Post
+read_call_lem κs a x y e f p q = p ∙ sym q
 
 pub line_after : Settled LineAfter.Post
 line_after κs a x y e f p q = p ∙ sym q
 
-pub calls-place : Settled CallsPlace.Post
-calls-place κs a x y e f p q = p.0 ∙ sym q.0
+pub calls_place_lem : Settled CallsPlace.Post
+calls_place_lem κs a x y e f p q = p.0 ∙ sym q.0
 
-pub first-bad : Settled FirstBad.Post
-first-bad κs a x y e f p q = p ∙ sym q
+pub first_bad_lem : Settled FirstBad.Post
+first_bad_lem κs a x y e f p q = p ∙ sym q

@@ -15,36 +15,36 @@ use Rattle.calls_text.specs.declared.line.CallLine.{CallLine}
 use Rattle.calls_text.specs.declared.line.CallLine.TheVariants.{Called, NoCall}
 
 -- 10^15, which each number is below: 1 to 15 digits
-abbrev pub callBound : ℕ
-callBound = 1000000000000000
+abbrev pub call_bound : ℕ
+call_bound = 1000000000000000
 
 -- the two numbers of a call, after its word
-abbrev pub numbersAt : List ℕ → ℕ → Pair
-numbersAt s at = pair_at callBound s at
+abbrev pub numbers_at : List ℕ → ℕ → Pair
+numbers_at s at = pair_at call_bound s at
 
 -- the call that they make, and the place after its line
-unfoldable pub asCall : (ℕ → Ticks → Call) → Pair → CallLine
-asCall call (Two i t next) = Called (call i (ticks t)) next
-asCall call NoPair = NoCall
+unfoldable pub as_call : (ℕ → Ticks → Call) → Pair → CallLine
+as_call call (Two i t next) = Called (call i (ticks t)) next
+as_call call NoPair = NoCall
 
 -- a call's word and its numbers, or else another line
-unfoldable pub callOr : (ℕ → Ticks → Call) → List ℕ → CallLine → Word → CallLine
-callOr call s other (After next) = asCall call (numbersAt s next)
-callOr call s other NoWord = other
+unfoldable pub call_or : (ℕ → Ticks → Call) → List ℕ → CallLine → Word → CallLine
+call_or call s other (After next) = as_call call (numbers_at s next)
+call_or call s other NoWord = other
 
 -- a look, or no call
-unfoldable pub lookLine : List ℕ → ℕ → CallLine
-lookLine s at = callOr Look s NoCall (word_at (ascii "look ") s at)
+unfoldable pub look_line : List ℕ → ℕ → CallLine
+look_line s at = call_or Look s NoCall (word_at (ascii "look ") s at)
 
 -- a finish, or else one of those
-unfoldable pub finishLine : List ℕ → ℕ → CallLine
-finishLine s at = callOr Finish s (lookLine s at) (word_at (ascii "finish ") s at)
+unfoldable pub finish_line : List ℕ → ℕ → CallLine
+finish_line s at = call_or Finish s (look_line s at) (word_at (ascii "finish ") s at)
 
 -- the call's line at a place: a release, or else one of those
-unfoldable pub callLine : List ℕ → ℕ → CallLine
-callLine s at = callOr Release s (finishLine s at) (word_at (ascii "release ") s at)
+unfoldable pub call_line : List ℕ → ℕ → CallLine
+call_line s at = call_or Release s (finish_line s at) (word_at (ascii "release ") s at)
 
 -- the place after it, and 0 where it cannot be read
-unfoldable pub lineAfter : CallLine → ℕ
-lineAfter (Called c next) = next
-lineAfter NoCall = 0
+unfoldable pub line_after : CallLine → ℕ
+line_after (Called c next) = next
+line_after NoCall = 0

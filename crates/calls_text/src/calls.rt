@@ -1,13 +1,13 @@
 // Where the calls stand in an input, and whether each can be read.
 ghost use Rattle.std.specs.Prelude.{◌≡◌, ◌≤◌, length};
-ghost use Rattle.calls_text.specs.Input.{callsPlace, badCall};
+ghost use Rattle.calls_text.specs.Input.{calls_place, bad_call};
 
 use crate::line::{line_after, read_call};
 use line_place::line_place;
 
 // Where the first line `calls` stands, and the text's end if there is none.
 pub fn calls_place(text: &[u8]) -> usize
-    ensures value { result ≡ callsPlace text.now }
+    ensures value { result ≡ calls_place text.now }
     ensures upper_bound { result ≤ length text.now }
 {
     line_place(text, b"calls\n")
@@ -16,7 +16,7 @@ pub fn calls_place(text: &[u8]) -> usize
 // The first unreadable one of the calls from a place on, the line there given, and 0 if there is none.
 pub fn first_bad(text: &[u8], from: usize, start: usize) -> usize
     requires { start ≤ 1000000 }
-    ensures { result ≡ badCall text.now start from }
+    ensures { result ≡ bad_call text.now start from }
 {
     let mut at = from;
     let mut line = start;

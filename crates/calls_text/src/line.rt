@@ -1,7 +1,7 @@
 // Reading a call's line.
 ghost use Rattle.std.specs.Prelude.{◌≡◌};
 ghost use Rattle.dispatch.specs.declared.call.Call.TheVariants.{Release as release, Finish as finish, Look as look};
-ghost use Rattle.calls_text.specs.Line.{numbersAt, asCall, lookLine, finishLine, callLine, lineAfter};
+ghost use Rattle.calls_text.specs.Line.{numbers_at, as_call, look_line, finish_line, call_line, line_after};
 
 use dispatch::call::Call;
 use scanning::line::{Pair, read_pair};
@@ -20,7 +20,7 @@ pub enum CallLine {
 
 // The numbers of a release.
 fn read_release(text: &[u8], at: usize) -> CallLine
-    ensures { result ≡ asCall release (numbersAt text.now at) }
+    ensures { result ≡ as_call release (numbers_at text.now at) }
 {
     match read_pair(text, at, BOUND) {
         Pair::NoPair => CallLine::NoCall,
@@ -30,7 +30,7 @@ fn read_release(text: &[u8], at: usize) -> CallLine
 
 // The numbers of a finish.
 fn read_finish(text: &[u8], at: usize) -> CallLine
-    ensures { result ≡ asCall finish (numbersAt text.now at) }
+    ensures { result ≡ as_call finish (numbers_at text.now at) }
 {
     match read_pair(text, at, BOUND) {
         Pair::NoPair => CallLine::NoCall,
@@ -40,7 +40,7 @@ fn read_finish(text: &[u8], at: usize) -> CallLine
 
 // The numbers of a look.
 fn read_look(text: &[u8], at: usize) -> CallLine
-    ensures { result ≡ asCall look (numbersAt text.now at) }
+    ensures { result ≡ as_call look (numbers_at text.now at) }
 {
     match read_pair(text, at, BOUND) {
         Pair::NoPair => CallLine::NoCall,
@@ -50,7 +50,7 @@ fn read_look(text: &[u8], at: usize) -> CallLine
 
 // A look's line, or no call's.
 fn look_or(text: &[u8], at: usize) -> CallLine
-    ensures { result ≡ lookLine text.now at }
+    ensures { result ≡ look_line text.now at }
 {
     match read_word(text, at, b"look ") {
         Word::NoWord => CallLine::NoCall,
@@ -60,7 +60,7 @@ fn look_or(text: &[u8], at: usize) -> CallLine
 
 // A finish's line, or one of those.
 fn finish_or(text: &[u8], at: usize) -> CallLine
-    ensures { result ≡ finishLine text.now at }
+    ensures { result ≡ finish_line text.now at }
 {
     match read_word(text, at, b"finish ") {
         Word::NoWord => look_or(text, at),
@@ -70,7 +70,7 @@ fn finish_or(text: &[u8], at: usize) -> CallLine
 
 // The call's line at a place.
 pub fn read_call(text: &[u8], at: usize) -> CallLine
-    ensures { result ≡ callLine text.now at }
+    ensures { result ≡ call_line text.now at }
 {
     match read_word(text, at, b"release ") {
         Word::NoWord => finish_or(text, at),
@@ -80,7 +80,7 @@ pub fn read_call(text: &[u8], at: usize) -> CallLine
 
 // The place after a line, and 0 where it cannot be read.
 pub fn line_after(line: CallLine) -> usize
-    ensures { result ≡ lineAfter line }
+    ensures { result ≡ line_after line }
 {
     match line {
         CallLine::Called(call, next) => next,

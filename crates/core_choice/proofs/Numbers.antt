@@ -11,50 +11,50 @@ use Rattle.core_choice.specs.declared.Choice.{Choice}
 use Rattle.core_choice.specs.declared.Choice.TheVariants.{Idle, Fixed, Mover}
 use Rattle.core_choice.specs.declared.Told.{Told}
 use Rattle.core_choice.specs.declared.Best.{Best}
-use Rattle.core_choice.specs.Choice.{choiceBy}
-use Rattle.core_choice.specs.Told.{toldOf, choiceTold}
-use Rattle.core_choice.specs.Inner.{kindBy}
+use Rattle.core_choice.specs.Choice.{choice_by}
+use Rattle.core_choice.specs.Told.{told_of, choice_told}
+use Rattle.core_choice.specs.Inner.{kind_by}
 
 -- the numbers tell the choice
-pub told-again : (c : Choice) → choiceTold (toldOf c) ≡ c
-told-again Idle = refl
-told-again (Fixed i d) = refl
-told-again (Mover i d Upper) = refl
-told-again (Mover i d Lower) = refl
+pub told_again : (c : Choice) → choice_told (told_of c) ≡ c
+told_again Idle = refl
+told_again (Fixed i d) = refl
+told_again (Mover i d Upper) = refl
+told_again (Mover i d Lower) = refl
 
 -- so they settle it
-pub told_same : (a b : Choice) → toldOf a ≡ toldOf b → a ≡ b
-told_same a b e = sym (told-again a) ∙ ap choiceTold e ∙ told-again b
+pub told_same : (a b : Choice) → told_of a ≡ told_of b → a ≡ b
+told_same a b e = sym (told_again a) ∙ ap choice_told e ∙ told_again b
 
 -- the choice that numbers tell, by their kind
 module _ (n : Told) where
-  pub as-idle : n.kind ≡ 0 → Idle ≡ choiceTold n
-  as-idle e = rw e
+  pub as_idle : n.kind ≡ 0 → Idle ≡ choice_told n
+  as_idle e = rw e
 
-  pub as-fixed : (n.kind ≡ 0 → ⊥) → n.kind ≡ 1 → Fixed n.task n.deadline ≡ choiceTold n
-  as-fixed z e = rw (ne_eqb n.kind 0 z, e)
+  pub as_fixed : (n.kind ≡ 0 → ⊥) → n.kind ≡ 1 → Fixed n.task n.deadline ≡ choice_told n
+  as_fixed z e = rw (ne_eqb n.kind 0 z, e)
 
-  pub as-lower : (n.kind ≡ 0 → ⊥) → (n.kind ≡ 1 → ⊥) → n.kind ≡ 2 → Mover n.task n.deadline Lower ≡ choiceTold n
-  as-lower z f e = rw (ne_eqb n.kind 0 z, ne_eqb n.kind 1 f, e)
+  pub as_lower : (n.kind ≡ 0 → ⊥) → (n.kind ≡ 1 → ⊥) → n.kind ≡ 2 → Mover n.task n.deadline Lower ≡ choice_told n
+  as_lower z f e = rw (ne_eqb n.kind 0 z, ne_eqb n.kind 1 f, e)
 
-  pub as-upper : (n.kind ≡ 0 → ⊥) → (n.kind ≡ 1 → ⊥) → (n.kind ≡ 2 → ⊥) → Mover n.task n.deadline Upper ≡ choiceTold n
-  as-upper z f l = rw (ne_eqb n.kind 0 z, ne_eqb n.kind 1 f, ne_eqb n.kind 2 l)
+  pub as_upper : (n.kind ≡ 0 → ⊥) → (n.kind ≡ 1 → ⊥) → (n.kind ≡ 2 → ⊥) → Mover n.task n.deadline Upper ≡ choice_told n
+  as_upper z f l = rw (ne_eqb n.kind 0 z, ne_eqb n.kind 1 f, ne_eqb n.kind 2 l)
 
 -- a kind, by a key
 module _ (key : ℕ) where
-  pub kind-upper : key ≡ 0 → 3 ≡ kindBy key
-  kind-upper e = rw e
+  pub kind_upper : key ≡ 0 → 3 ≡ kind_by key
+  kind_upper e = rw e
 
-  pub kind-lower : (key ≡ 0 → ⊥) → key ≡ 1 → 2 ≡ kindBy key
-  kind-lower u e = rw (ne_eqb key 0 u, e)
+  pub kind_lower : (key ≡ 0 → ⊥) → key ≡ 1 → 2 ≡ kind_by key
+  kind_lower u e = rw (ne_eqb key 0 u, e)
 
-  pub kind-fixed : (key ≡ 0 → ⊥) → (key ≡ 1 → ⊥) → 1 ≡ kindBy key
-  kind-fixed u l = rw (ne_eqb key 0 u, ne_eqb key 1 l)
+  pub kind_fixed : (key ≡ 0 → ⊥) → (key ≡ 1 → ⊥) → 1 ≡ kind_by key
+  kind_fixed u l = rw (ne_eqb key 0 u, ne_eqb key 1 l)
 
 -- the numbers of the best task, if there is one
-pub best-told : (b : Best) (due : Ticks) {k : ℕ} → 0 < b.task → k ≡ kindBy b.key
-    → ◌≡◌ {A = Told} (record { kind = k; task = b.task; deadline = due }) (toldOf (choiceBy b due.0))
-best-told b due h e =
+pub best_told : (b : Best) (due : Ticks) {k : ℕ} → 0 < b.task → k ≡ kind_by b.key
+    → ◌≡◌ {A = Told} (record { kind = k; task = b.task; deadline = due }) (told_of (choice_by b due.0))
+best_told b due h e =
     rw (e, ne_eqb b.task 0 (λ z. absurd (omega (arith, z, h))))
     (by_cases (eqb b.key 0)
     (λ u. rw u refl)

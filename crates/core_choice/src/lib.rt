@@ -1,10 +1,10 @@
 // Who goes first on a core: the better of two tasks, and the choice that the best one is.
 ghost use Rattle.std.specs.Prelude.{◌≡◌, ◌+◌, ◌<◌, ◌≤◌};
-ghost use Rattle.units.specs.Limits.{coresLimit, periodLimit, clockLimit};
-ghost use Rattle.task_state.specs.Key.{deadlineOf};
-ghost use Rattle.core_choice.specs.Choice.{betterTask, choiceBy};
-ghost use Rattle.core_choice.specs.Told.{toldOf, choiceTold};
-ghost use Rattle.core_choice.specs.Inner.{kindBy};
+ghost use Rattle.units.specs.Limits.{cores_limit, period_limit, clock_limit};
+ghost use Rattle.task_state.specs.Key.{deadline_of};
+ghost use Rattle.core_choice.specs.Choice.{better_task, choice_by};
+ghost use Rattle.core_choice.specs.Told.{told_of, choice_told};
+ghost use Rattle.core_choice.specs.Inner.{kind_by};
 
 use planning::Line;
 use task_state::State;
@@ -43,7 +43,7 @@ impl Told {
 
     // The choice that the numbers tell.
     pub fn choice(self) -> Choice
-        ensures { result ≡ choiceTold self }
+        ensures { result ≡ choice_told self }
     {
         let task = self.task;
         let deadline = self.deadline;
@@ -76,8 +76,8 @@ pub fn better_task(
     core: usize,
     time: Ticks,
 ) -> Best
-    requires { (0 < core) × (core ≤ coresLimit) × (deadlineOf state ≤ clockLimit + periodLimit) × (time.0 ≤ clockLimit) }
-    ensures { result ≡ betterTask best task line state core time.0 }
+    requires { (0 < core) × (core ≤ cores_limit) × (deadline_of state ≤ clock_limit + period_limit) × (time.0 ≤ clock_limit) }
+    ensures { result ≡ better_task best task line state core time.0 }
 {
     if !state.waits(line, core, time) {
         return best;
@@ -94,7 +94,7 @@ pub fn better_task(
 
 // A choice's kind, by its task's key.
 fn kind_of(key: u64) -> u64
-    ensures { result ≡ kindBy key }
+    ensures { result ≡ kind_by key }
 {
     if key == 0 {
         return 3;
@@ -106,7 +106,7 @@ impl Best {
     // The choice that it is, by its state, in numbers.
     pub fn told(self, state: State) -> Told
         requires { 0 < self.task }
-        ensures { result ≡ toldOf (choiceBy self (deadlineOf state)) }
+        ensures { result ≡ told_of (choice_by self (deadline_of state)) }
     {
         let deadline = state.deadlines[0];
         let kind = kind_of(self.key);

@@ -6,14 +6,14 @@ use Rattle.core_rules.proofs.few_movers.Reads as FewMovers
 use Rattle.core_rules.proofs.one_first.Reads as OneFirst
 use Rattle.core_rules.proofs.guarded.Reads as Guarded
 
-pub core-within : Settled CoreWithin.Post
-core-within κs a x y e f p q = p ∙ sym q
+pub core_within_lem : Settled CoreWithin.Post
+core_within_lem κs a x y e f p q = p ∙ sym q
 
-pub few-movers : Settled FewMovers.Post
-few-movers κs a x y e f p q = p ∙ sym q
+pub few_movers_lem : Settled FewMovers.Post
+few_movers_lem κs a x y e f p q = p ∙ sym q
 
-pub one-first : Settled OneFirst.Post
-one-first κs a x y e f p q = p ∙ sym q
+pub one_first_lem : Settled OneFirst.Post
+one_first_lem κs a x y e f p q = p ∙ sym q
 
 pub guarded : Settled Guarded.Post
 guarded κs a x y e f p q = p ∙ sym q

@@ -13,21 +13,21 @@ use Rattle.planning.specs.declared.Plan.{Plan}
 use Rattle.instants.specs.declared.Seen.{Seen}
 use Rattle.goings.specs.declared.Going.{Going}
 use Rattle.instants.specs.Seen.{idle}
-use Rattle.goings.specs.Going.{noGoing}
-use Rattle.instants.specs.Goings.{goingsOf}
-use Rattle.instants.proofs.GoingsAt.{goings-long, goings-past, goings-at}
-use Rattle.day_rules.specs.Spans.{spansEnd}
-use Rattle.day.specs.Desk.{Desk, run_of, choiceAt, number_of, looksAt, lookedAt}
-use Rattle.day.proofs.Looked.{choice-by, number_by, looked-states, looked-works, looked-long, looked-at, looked-past}
+use Rattle.goings.specs.Going.{no_going}
+use Rattle.instants.specs.Goings.{goings_of}
+use Rattle.instants.proofs.GoingsAt.{goings_long, goings_past, goings_at}
+use Rattle.day_rules.specs.Spans.{spans_end}
+use Rattle.day.specs.Desk.{Desk, run_of, choice_at, number_of, looks_at, looked_at}
+use Rattle.day.proofs.Looked.{choice_by_lem, number_by, looked_states, looked_works, looked_long, looked_at_lem, looked_past}
 
 module _ (pl : Plan) (t : ℕ) (d : Desk) (ss : List Seen) (n : ℕ) (wide : n ≤ length d.going)
-    (task : (p : ℕ) → p < n → (get_or ss p idle).task ≡ choiceAt pl t d p)
-    (run : (p : ℕ) → p < n → (get_or ss p idle).run ≡ number_of d (choiceAt pl t d p)) where
+    (task : (p : ℕ) → p < n → (get_or ss p idle).task ≡ choice_at pl t d p)
+    (run : (p : ℕ) → p < n → (get_or ss p idle).run ≡ number_of d (choice_at pl t d p)) where
   -- the runs that have the cores after a look at each
-  pub goings-same : goingsOf d.going ss t n ≡ (lookedAt pl t n d).going
-  goings-same =
-      ext_get_or noGoing (goingsOf d.going ss t n) (lookedAt pl t n d).going
-      (goings-long d.going ss t n ∙ sym (looked-long pl t d n))
+  pub goings_same : goings_of d.going ss t n ≡ (looked_at pl t n d).going
+  goings_same =
+      ext_get_or no_going (goings_of d.going ss t n) (looked_at pl t n d).going
+      (goings_long d.going ss t n ∙ sym (looked_long pl t d n))
       (λ p l. by_cases (ltb p n) (λ e. here p (below p e)) (λ e. past p (above p e)))
     where
       below : (p : ℕ) → ltb p n ≡ true → p < n
@@ -36,27 +36,27 @@ module _ (pl : Plan) (t : ℕ) (d : Desk) (ss : List Seen) (n : ℕ) (wide : n �
       above : (p : ℕ) → ltb p n ≡ false → n ≤ p
       above p e = ltb-false p n e
 
-      here : (p : ℕ) → p < n → get_or (goingsOf d.going ss t n) p noGoing ≡ run_of (lookedAt pl t n d) p
+      here : (p : ℕ) → p < n → get_or (goings_of d.going ss t n) p no_going ≡ run_of (looked_at pl t n d) p
       here p l =
-          goings-at d.going ss t n p l wide
-          ∙ rw (task p l, run p l) (sym (looked-at pl t d n p l wide))
+          goings_at d.going ss t n p l wide
+          ∙ rw (task p l, run p l) (sym (looked_at_lem pl t d n p l wide))
 
-      past : (p : ℕ) → n ≤ p → get_or (goingsOf d.going ss t n) p noGoing ≡ run_of (lookedAt pl t n d) p
-      past p l = goings-past d.going ss t n p l ∙ sym (looked-past pl t d n p l)
+      past : (p : ℕ) → n ≤ p → get_or (goings_of d.going ss t n) p no_going ≡ run_of (looked_at pl t n d) p
+      past p l = goings_past d.going ss t n p l ∙ sym (looked_past pl t d n p l)
 
 -- the spans that end then
-pub looked-said : (pl : Plan) (t : ℕ) (d : Desk) (n : ℕ) (hs : List Going) → ((p : ℕ) → p < n → (get_or hs p noGoing).task ≡ choiceAt pl t d p)
-    → ((p : ℕ) → p < n → (get_or hs p noGoing).run ≡ number_of d (choiceAt pl t d p)) → (lookedAt pl t n d).said ≡ d.said ++ spansEnd d.going hs t n
-unfolding looksAt
-looked-said pl t d zero hs task run = sym (append-nil d.said)
-looked-said pl t d (suc n) hs task run =
-    let e = lookedAt pl t n d in
+pub looked_said : (pl : Plan) (t : ℕ) (d : Desk) (n : ℕ) (hs : List Going) → ((p : ℕ) → p < n → (get_or hs p no_going).task ≡ choice_at pl t d p)
+    → ((p : ℕ) → p < n → (get_or hs p no_going).run ≡ number_of d (choice_at pl t d p)) → (looked_at pl t n d).said ≡ d.said ++ spans_end d.going hs t n
+unfolding looks_at
+looked_said pl t d zero hs task run = sym (append-nil d.said)
+looked_said pl t d (suc n) hs task run =
+    let e = looked_at pl t n d in
     rw (
-      choice-by pl t e d n (looked-states pl t d n),
-      number_by e d (choiceAt pl t d n) (looked-works pl t d n),
-      looked-past pl t d n n (omega arith),
-      looked-said pl t d n hs (λ p l. task p (omega (arith, l))) (λ p l. run p (omega (arith, l))),
+      choice_by_lem pl t e d n (looked_states pl t d n),
+      number_by e d (choice_at pl t d n) (looked_works pl t d n),
+      looked_past pl t d n n (omega arith),
+      looked_said pl t d n hs (λ p l. task p (omega (arith, l))) (λ p l. run p (omega (arith, l))),
       task n (omega arith),
       run n (omega arith),
     )
-    (append_assoc d.said (spansEnd d.going hs t n) _)
+    (append_assoc d.said (spans_end d.going hs t n) _)

@@ -13,24 +13,24 @@ use borrow.Author.Tests.{eqb-true, eqb-false, eq-eqb, ne_eqb}
 use Rattle.lists.specs.Lists.{bit}
 use Rattle.lists.proofs.Tests.{by_cases}
 use Rattle.goings.specs.declared.Going.{Going}
-use Rattle.goings.specs.Going.{noGoing, ranBy}
-use Rattle.goings.proofs.Ran.{ran-long}
+use Rattle.goings.specs.Going.{no_going, ran_by}
+use Rattle.goings.proofs.Ran.{ran_long}
 
 module _ (gs : List Going) where
   -- how many of the first n cores have a run of task i, from 0
   abbrev pub having : ℕ → ℕ → ℕ
   having i zero = 0
-  having i (suc n) = having i n + bit (eqb (get_or gs n noGoing).task (suc i))
+  having i (suc n) = having i n + bit (eqb (get_or gs n no_going).task (suc i))
 
   module _ (m : ℕ) (hs : List ℕ) where
     -- m more for each of them
-    pub ran-is : (n i : ℕ) → i < length hs → get_or (ranBy gs m hs n) i 0 ≡ get_or hs i 0 + m * having i n
-    unfolding ranBy
-    ran-is zero i h = omega arith
-    ran-is (suc n) i h = go (get_or gs n noGoing).task (ran-is n i h)
+    pub ran_is : (n i : ℕ) → i < length hs → get_or (ran_by gs m hs n) i 0 ≡ get_or hs i 0 + m * having i n
+    unfolding ran_by
+    ran_is zero i h = omega arith
+    ran_is (suc n) i h = go (get_or gs n no_going).task (ran_is n i h)
       where
         rs : List ℕ
-        rs = ranBy gs m hs n
+        rs = ran_by gs m hs n
 
         go : (j : ℕ) → get_or rs i 0 ≡ get_or hs i 0 + m * having i n
             → get_or (cond (eqb j 0) rs (set rs (j - 1) (get_or rs (j - 1) 0 + m))) i 0 ≡ get_or hs i 0 + m * (having i n + bit (eqb j (suc i)))
@@ -47,41 +47,41 @@ module _ (gs : List Going) where
             some j r z (yes e) =
                 let o = eqb-false j 0 z in
                 rw (z, eq-eqb j (suc i) (omega (arith, e, o)), ← e)
-                (get_or-set_same rs i (get_or rs i 0 + m) 0 (omega (arith, h, ran-long gs m hs n)) ∙ omega (arith, r, mul-add m (having i n) 1))
+                (get_or-set_same rs i (get_or rs i 0 + m) 0 (omega (arith, h, ran_long gs m hs n)) ∙ omega (arith, r, mul-add m (having i n) 1))
             some j r z (no e) =
                 let o = eqb-false j 0 z in
                 rw (z, ne_eqb j (suc i) (λ q. e (omega (arith, q))))
                 (get_or-set_other rs (j - 1) i (get_or rs (j - 1) 0 + m) 0 e ∙ omega (arith, r, mul-add m (having i n) 0))
 
   -- a task that has one of them alone
-  pub having-none : (i n : ℕ) → ((q : ℕ) → q < n → (get_or gs q noGoing).task ≡ suc i → ⊥) → having i n ≡ 0
-  having-none i zero h = refl
-  having-none i (suc n) h =
-      rw (having-none i n (λ q l. h q (omega (arith, l))), ne_eqb (get_or gs n noGoing).task (suc i) (h n (omega arith))) refl
+  pub having_none : (i n : ℕ) → ((q : ℕ) → q < n → (get_or gs q no_going).task ≡ suc i → ⊥) → having i n ≡ 0
+  having_none i zero h = refl
+  having_none i (suc n) h =
+      rw (having_none i n (λ q l. h q (omega (arith, l))), ne_eqb (get_or gs n no_going).task (suc i) (h n (omega arith))) refl
 
-  pub having-one : (i n p : ℕ) → p < n → (get_or gs p noGoing).task ≡ suc i → ((q : ℕ) → q < n → (get_or gs q noGoing).task ≡ suc i → q ≡ p) → having i n ≡ 1
-  having-one i zero p l e h = absurd (omega arith)
-  having-one i (suc n) p l e h = go (λ b. having-one i n p b e (λ q k. h q (omega (arith, k)))) (ℕ_discrete p n)
+  pub having_one : (i n p : ℕ) → p < n → (get_or gs p no_going).task ≡ suc i → ((q : ℕ) → q < n → (get_or gs q no_going).task ≡ suc i → q ≡ p) → having i n ≡ 1
+  having_one i zero p l e h = absurd (omega arith)
+  having_one i (suc n) p l e h = go (λ b. having_one i n p b e (λ q k. h q (omega (arith, k)))) (ℕ_discrete p n)
     where
-      go : (p < n → having i n ≡ 1) → Dec (p ≡ n) → having i n + bit (eqb (get_or gs n noGoing).task (suc i)) ≡ 1
+      go : (p < n → having i n ≡ 1) → Dec (p ≡ n) → having i n + bit (eqb (get_or gs n no_going).task (suc i)) ≡ 1
       go below (yes q) =
-          let f : (get_or gs n noGoing).task ≡ suc i = rw q at e in
-          rw (having-none i n (λ j k z. omega (arith, k, q, h j (omega (arith, k)) z)), eq-eqb (get_or gs n noGoing).task (suc i) f) refl
+          let f : (get_or gs n no_going).task ≡ suc i = rw q at e in
+          rw (having_none i n (λ j k z. omega (arith, k, q, h j (omega (arith, k)) z)), eq-eqb (get_or gs n no_going).task (suc i) f) refl
       go below (no q) =
-          rw (below (omega (arith, l, q)), ne_eqb (get_or gs n noGoing).task (suc i) (λ z. q (sym (h n (omega arith) z)))) refl
+          rw (below (omega (arith, l, q)), ne_eqb (get_or gs n no_going).task (suc i) (λ z. q (sym (h n (omega arith) z)))) refl
 
 -- some ticks, and then more
-pub ran-more : (gs : List Going) (k m n : ℕ) (hs : List ℕ) → ranBy gs m (ranBy gs k hs n) n ≡ ranBy gs (k + m) hs n
-ran-more gs k m n hs =
-    ext_get_or 0 (ranBy gs m (ranBy gs k hs n) n) (ranBy gs (k + m) hs n)
-    (ran-long gs m (ranBy gs k hs n) n ∙ ran-long gs k hs n ∙ sym (ran-long gs (k + m) hs n))
+pub ran_more : (gs : List Going) (k m n : ℕ) (hs : List ℕ) → ran_by gs m (ran_by gs k hs n) n ≡ ran_by gs (k + m) hs n
+ran_more gs k m n hs =
+    ext_get_or 0 (ran_by gs m (ran_by gs k hs n) n) (ran_by gs (k + m) hs n)
+    (ran_long gs m (ran_by gs k hs n) n ∙ ran_long gs k hs n ∙ sym (ran_long gs (k + m) hs n))
     (λ i l.
-    let h : i < length hs = omega (arith, l, ran-long gs m (ranBy gs k hs n) n, ran-long gs k hs n) in
-    ran-is gs m (ranBy gs k hs n) n i (omega (arith, h, ran-long gs k hs n))
-    ∙ omega (arith, ran-is gs k hs n i h, ran-is gs (k + m) hs n i h, add-mul k m (having gs i n)))
+    let h : i < length hs = omega (arith, l, ran_long gs m (ran_by gs k hs n) n, ran_long gs k hs n) in
+    ran_is gs m (ran_by gs k hs n) n i (omega (arith, h, ran_long gs k hs n))
+    ∙ omega (arith, ran_is gs k hs n i h, ran_is gs (k + m) hs n i h, add-mul k m (having gs i n)))
 
 -- none
-pub ran-none : (gs : List Going) (n : ℕ) (hs : List ℕ) → ranBy gs 0 hs n ≡ hs
-ran-none gs n hs =
-    ext_get_or 0 (ranBy gs 0 hs n) hs (ran-long gs 0 hs n)
-    (λ i l. let h : i < length hs = omega (arith, l, ran-long gs 0 hs n) in omega (arith, ran-is gs 0 hs n i h))
+pub ran_none : (gs : List Going) (n : ℕ) (hs : List ℕ) → ran_by gs 0 hs n ≡ hs
+ran_none gs n hs =
+    ext_get_or 0 (ran_by gs 0 hs n) hs (ran_long gs 0 hs n)
+    (λ i l. let h : i < length hs = omega (arith, l, ran_long gs 0 hs n) in omega (arith, ran_is gs 0 hs n i h))

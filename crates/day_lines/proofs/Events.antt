@@ -3,14 +3,14 @@ use mathlib.Core.Path.{◌≡◌, refl, sym, ap, ◌∙◌}
 use mathlib.Core.List.{List, [], ◌∷◌, ◌++◌, append_assoc, append-nil}
 use Prim.Native.Nat.{ℕ}
 use Rattle.day_lines.specs.declared.Event.{Event}
-use Rattle.day_lines.specs.Lines.{eventText, eventsText}
+use Rattle.day_lines.specs.Lines.{event_text, events_text}
 
 -- events and then others
-pub events-append : (ds es : List Event) → eventsText (ds ++ es) ≡ eventsText ds ++ eventsText es
-events-append [] es = refl
-events-append (d ∷ ds) es =
-    ap (λ (t : List ℕ). eventText d ++ t) (events-append ds es) ∙ sym (append_assoc (eventText d) (eventsText ds) (eventsText es))
+pub events_append : (ds es : List Event) → events_text (ds ++ es) ≡ events_text ds ++ events_text es
+events_append [] es = refl
+events_append (d ∷ ds) es =
+    ap (λ (t : List ℕ). event_text d ++ t) (events_append ds es) ∙ sym (append_assoc (event_text d) (events_text ds) (events_text es))
 
 -- and one more
-pub events-more : (es : List Event) (e : Event) → eventsText (es ++ (e ∷ [])) ≡ eventsText es ++ eventText e
-events-more es e = events-append es (e ∷ []) ∙ ap (λ (t : List ℕ). eventsText es ++ t) (append-nil (eventText e))
+pub events_more : (es : List Event) (e : Event) → events_text (es ++ (e ∷ [])) ≡ events_text es ++ event_text e
+events_more es e = events_append es (e ∷ []) ∙ ap (λ (t : List ℕ). events_text es ++ t) (append-nil (event_text e))

@@ -3,5 +3,5 @@ use Rattle.lists.specs.Settled.{SettledLent}
 use Rattle.writing.proofs.Wrote.{settled}
 use Rattle.day_lines.proofs.put_event.Reads as PutEvent
 
-pub put-event : SettledLent (λ κs e. e.0.now) PutEvent.Post
-put-event κs a x y e f p q = settled p.0 q.0
+pub put_event_lem : SettledLent (λ κs e. e.0.now) PutEvent.Post
+put_event_lem κs a x y e f p q = settled p.0 q.0

@@ -1,8 +1,8 @@
 // What a rehearsal says, a line each.
 ghost use Rattle.std.specs.Prelude.{◌+◌, ◌≤◌, length};
-ghost use Rattle.writing.specs.Inner.{placeLimit};
+ghost use Rattle.writing.specs.Inner.{place_limit};
 ghost use Rattle.writing.specs.Wrote.{Wrote};
-ghost use Rattle.day_lines.specs.Lines.{ranAfter, finishText, refusedText, spanText, stopText, leftText, unfinishedText, eventText};
+ghost use Rattle.day_lines.specs.Lines.{ran_after, finish_text, refused_text, span_text, stop_text, left_text, unfinished_text, event_text};
 
 use units::ticks::Ticks;
 use writing::{NEWLINE, put_byte, put_field, put_signed, put_text};
@@ -28,8 +28,8 @@ pub enum Event {
 
 // A run on a core, after a word.
 fn put_ran(buf: &mut [u8], at: usize, word: &[u8], ran: Ran) -> usize
-    requires { (at + 85 ≤ placeLimit) × (length word.now ≤ 12) }
-    ensures wrote { Wrote buf.old at (ranAfter word.now ran) buf.new result }
+    requires { (at + 85 ≤ place_limit) × (length word.now ≤ 12) }
+    ensures wrote { Wrote buf.old at (ran_after word.now ran) buf.new result }
     ensures upper_bound { result ≤ at + 85 }
 {
     let a = put_field(buf, at, word, ran.core as u64);
@@ -39,8 +39,8 @@ fn put_ran(buf: &mut [u8], at: usize, word: &[u8], ran: Ran) -> usize
 
 // A finish.
 fn put_finish(buf: &mut [u8], at: usize, ran: Ran, time: Ticks, late: i64) -> usize
-    requires { at + 160 ≤ placeLimit }
-    ensures wrote { Wrote buf.old at (finishText ran time.0 late) buf.new result }
+    requires { at + 160 ≤ place_limit }
+    ensures wrote { Wrote buf.old at (finish_text ran time.0 late) buf.new result }
     ensures upper_bound { result ≤ at + 160 }
 {
     let a = put_ran(buf, at, b"finish core ", ran);
@@ -59,8 +59,8 @@ fn put_refused(
     task: usize,
     time: Ticks,
 ) -> usize
-    requires { at + 160 ≤ placeLimit }
-    ensures wrote { Wrote buf.old at (refusedText no arrival task time.0) buf.new result }
+    requires { at + 160 ≤ place_limit }
+    ensures wrote { Wrote buf.old at (refused_text no arrival task time.0) buf.new result }
     ensures upper_bound { result ≤ at + 160 }
 {
     let a = put_field(buf, at, b"refused ", no as u64);
@@ -72,8 +72,8 @@ fn put_refused(
 
 // A span.
 fn put_span(buf: &mut [u8], at: usize, ran: Ran, from: Ticks, to: Ticks) -> usize
-    requires { at + 160 ≤ placeLimit }
-    ensures wrote { Wrote buf.old at (spanText ran from.0 to.0) buf.new result }
+    requires { at + 160 ≤ place_limit }
+    ensures wrote { Wrote buf.old at (span_text ran from.0 to.0) buf.new result }
     ensures upper_bound { result ≤ at + 160 }
 {
     let a = put_ran(buf, at, b"span core ", ran);
@@ -84,8 +84,8 @@ fn put_span(buf: &mut [u8], at: usize, ran: Ran, from: Ticks, to: Ticks) -> usiz
 
 // The stop.
 fn put_stop(buf: &mut [u8], at: usize, time: Ticks) -> usize
-    requires { at + 160 ≤ placeLimit }
-    ensures wrote { Wrote buf.old at (stopText time.0) buf.new result }
+    requires { at + 160 ≤ place_limit }
+    ensures wrote { Wrote buf.old at (stop_text time.0) buf.new result }
     ensures upper_bound { result ≤ at + 160 }
 {
     let a = put_field(buf, at, b"stop ", time.0);
@@ -94,8 +94,8 @@ fn put_stop(buf: &mut [u8], at: usize, time: Ticks) -> usize
 
 // An unfinished run: its task and number, its core and deadline.
 fn put_left(buf: &mut [u8], at: usize, ran: Ran, deadline: Ticks) -> usize
-    requires { at + 122 ≤ placeLimit }
-    ensures wrote { Wrote buf.old at (leftText ran deadline.0) buf.new result }
+    requires { at + 122 ≤ place_limit }
+    ensures wrote { Wrote buf.old at (left_text ran deadline.0) buf.new result }
     ensures upper_bound { result ≤ at + 122 }
 {
     let a = put_field(buf, at, b"unfinished task ", ran.task as u64);
@@ -106,8 +106,8 @@ fn put_left(buf: &mut [u8], at: usize, ran: Ran, deadline: Ticks) -> usize
 
 // And the ticks it has had, of its length.
 fn put_unfinished(buf: &mut [u8], at: usize, ran: Ran, deadline: Ticks, had: u64, all: u64) -> usize
-    requires { at + 180 ≤ placeLimit }
-    ensures wrote { Wrote buf.old at (unfinishedText ran deadline.0 had all) buf.new result }
+    requires { at + 180 ≤ place_limit }
+    ensures wrote { Wrote buf.old at (unfinished_text ran deadline.0 had all) buf.new result }
     ensures upper_bound { result ≤ at + 180 }
 {
     let a = put_left(buf, at, ran, deadline);
@@ -118,8 +118,8 @@ fn put_unfinished(buf: &mut [u8], at: usize, ran: Ran, deadline: Ticks, had: u64
 
 // An event's line.
 pub fn put_event(buf: &mut [u8], at: usize, event: Event) -> usize
-    requires { at + 180 ≤ placeLimit }
-    ensures wrote { Wrote buf.old at (eventText event) buf.new result }
+    requires { at + 180 ≤ place_limit }
+    ensures wrote { Wrote buf.old at (event_text event) buf.new result }
     ensures upper_bound { result ≤ at + 180 }
 {
     match event {

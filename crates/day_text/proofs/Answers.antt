@@ -7,88 +7,88 @@ use native.Mathlib.Nat.{sub-zero}
 use native.Mathlib.Omega.{arith}
 use lib.ListN.{length, take}
 use lib.Seq.{sets}
-use Rattle.table_text.specs.Text.{Said, says, unreadable as noTable, text_of, tableSaid, answer_of}
+use Rattle.table_text.specs.Text.{Said, says, unreadable as no_table, text_of, table_said, answer_of}
 use Rattle.table_text.specs.declared.Reading.{Reading}
 use Rattle.table_text.specs.declared.Reading.TheVariants.{Read as TableRead, Unreadable as TableUnreadable}
-use Rattle.table_text.proofs.Answered.{is-unreadable}
+use Rattle.table_text.proofs.Answered.{is_unreadable}
 use Rattle.scanning.specs.declared.number.Number.{Number}
 use Rattle.scanning.specs.declared.number.Number.TheVariants.{Value, NoNumber}
-use Rattle.day_text.specs.Line.{stopLine, stopPlace}
-use Rattle.day_text.specs.Input.{arrivalsAt, more_at, afterStop, afterTable, tableIn, dayOf, arrivalsSaid, dayAnswer}
-use Rattle.day_text.specs.Inner.{stopAnswer, stopArrivals}
+use Rattle.day_text.specs.Line.{stop_line, stop_place}
+use Rattle.day_text.specs.Input.{arrivals_at, more_at, after_stop, after_table, table_in, day_of, arrivals_said, day_answer}
+use Rattle.day_text.specs.Inner.{stop_answer, stop_arrivals}
 use Rattle.day_text.specs.declared.DayReading.{DayReading}
 use Rattle.day_text.specs.declared.DayReading.TheVariants.{Read, Unreadable}
 
 -- by the stop's line
 module _ (s l : List ℕ) (m n : ℕ) {w : Number} where
   -- there is none
-  pub no_stop : w ≡ NoNumber → (Unreadable (2 + n / 2) ≡ stopAnswer s m n w) × (l ≡ sets l 0 (stopArrivals s w))
-  unfolding stopAnswer stopArrivals
+  pub no_stop : w ≡ NoNumber → (Unreadable (2 + n / 2) ≡ stop_answer s m n w) × (l ≡ sets l 0 (stop_arrivals s w))
+  unfolding stop_answer stop_arrivals
   no_stop e = rw e (refl, refl)
 
   -- there is one
   pub stopped : {stop at numbers : ℕ} {more : Bool} {later : List ℕ} → w ≡ Value stop at
-      → (numbers ≡ length (arrivalsAt s at)) × (more ≡ more_at s at) → later ≡ sets l 0 (arrivalsAt s at)
-      → (Read m n stop numbers more ≡ stopAnswer s m n w) × (later ≡ sets l 0 (stopArrivals s w))
-  unfolding stopAnswer stopArrivals
+      → (numbers ≡ length (arrivals_at s at)) × (more ≡ more_at s at) → later ≡ sets l 0 (arrivals_at s at)
+      → (Read m n stop numbers more ≡ stop_answer s m n w) × (later ≡ sets l 0 (stop_arrivals s w))
+  unfolding stop_answer stop_arrivals
   stopped {stop} e f g = rw e (ap₂ (Read m n stop) f.0 f.1, g)
 
 -- a text is read or not
-no-reading : {A : Type 0} {m n line : ℕ} → TableUnreadable line ≡ TableRead m n → A
-no-reading e = let z : ◌≡◌ {A = ℕ} 0 1 = cc in absurd (omega arith)
+no_reading : {A : Type 0} {m n line : ℕ} → TableUnreadable line ≡ TableRead m n → A
+no_reading e = let z : ◌≡◌ {A = ℕ} 0 1 = cc in absurd (omega arith)
 
 module _ (s : List ℕ) (m : ℕ) (xs : List ℕ) where
-  stop-answers : (w : Number) → stopAnswer s m (length xs) w ≡ dayAnswer (afterStop s m xs w)
-  unfolding stopAnswer dayAnswer afterStop
-  stop-answers (Value stop at) = refl
-  stop-answers NoNumber = refl
+  stop_answers : (w : Number) → stop_answer s m (length xs) w ≡ day_answer (after_stop s m xs w)
+  unfolding stop_answer day_answer after_stop
+  stop_answers (Value stop at) = refl
+  stop_answers NoNumber = refl
 
-  stop-arrives : (w : Number) → stopArrivals s w ≡ arrivalsSaid (afterStop s m xs w)
-  unfolding stopArrivals arrivalsSaid afterStop
-  stop-arrives (Value stop at) = refl
-  stop-arrives NoNumber = refl
+  stop_arrives : (w : Number) → stop_arrivals s w ≡ arrivals_said (after_stop s m xs w)
+  unfolding stop_arrivals arrivals_said after_stop
+  stop_arrives (Value stop at) = refl
+  stop_arrives NoNumber = refl
 
 -- by what the table's text says
 module _ (s : List ℕ) (p : ℕ) where
-  table-answers : (w : Said) {m n : ℕ} → answer_of w ≡ TableRead m n → stopAnswer s m n (stopLine s p) ≡ dayAnswer (afterTable s p w)
-  unfolding answer_of afterTable
-  table-answers (says k xs) {m} {n} e =
+  table_answers : (w : Said) {m n : ℕ} → answer_of w ≡ TableRead m n → stop_answer s m n (stop_line s p) ≡ day_answer (after_table s p w)
+  unfolding answer_of after_table
+  table_answers (says k xs) {m} {n} e =
       let y : k ≡ m = cc in let z : length xs ≡ n = cc in
-      rw (← y, ← z) (stop-answers s k xs (stopLine s p))
-  table-answers (noTable line) e = no-reading e
+      rw (← y, ← z) (stop_answers s k xs (stop_line s p))
+  table_answers (no_table line) e = no_reading e
 
-  table-arrives : (w : Said) {m n : ℕ} → answer_of w ≡ TableRead m n → stopArrivals s (stopLine s p) ≡ arrivalsSaid (afterTable s p w)
-  unfolding answer_of afterTable
-  table-arrives (says k xs) e = stop-arrives s k xs (stopLine s p)
-  table-arrives (noTable line) e = no-reading e
+  table_arrives : (w : Said) {m n : ℕ} → answer_of w ≡ TableRead m n → stop_arrivals s (stop_line s p) ≡ arrivals_said (after_table s p w)
+  unfolding answer_of after_table
+  table_arrives (says k xs) e = stop_arrives s k xs (stop_line s p)
+  table_arrives (no_table line) e = no_reading e
 
 -- the whole input: the place of the stop's line, and what was read before it
-module _ (s table l : List ℕ) {p : ℕ} {r : Reading} {then : List ℕ} (e : p ≡ stopPlace s) (f : r ≡ answer_of (text_of (take (p - 0) s)))
-    (g : then ≡ sets table 0 (tableSaid (text_of (take (p - 0) s)))) where
-  text-is : text_of (take (p - 0) s) ≡ tableIn s
-  text-is = ap (λ (k : ℕ). text_of (take k s)) (sub-zero p ∙ e)
+module _ (s table l : List ℕ) {p : ℕ} {r : Reading} {then : List ℕ} (e : p ≡ stop_place s) (f : r ≡ answer_of (text_of (take (p - 0) s)))
+    (g : then ≡ sets table 0 (table_said (text_of (take (p - 0) s)))) where
+  text_is : text_of (take (p - 0) s) ≡ table_in s
+  text_is = ap (λ (k : ℕ). text_of (take k s)) (sub-zero p ∙ e)
 
-  table_is : then ≡ sets table 0 (tableSaid (tableIn s))
-  table_is = g ∙ ap (λ (w : Said). sets table 0 (tableSaid w)) text-is
+  table_is : then ≡ sets table 0 (table_said (table_in s))
+  table_is = g ∙ ap (λ (w : Said). sets table 0 (table_said w)) text_is
 
   -- it cannot be read
   pub unread : {line : ℕ} → r ≡ TableUnreadable line
-      → (Unreadable line ≡ dayAnswer (dayOf s)) × ((then ≡ sets table 0 (tableSaid (tableIn s))) × (l ≡ sets l 0 (arrivalsSaid (dayOf s))))
-  unfolding dayOf dayAnswer afterTable arrivalsSaid
+      → (Unreadable line ≡ day_answer (day_of s)) × ((then ≡ sets table 0 (table_said (table_in s))) × (l ≡ sets l 0 (arrivals_said (day_of s))))
+  unfolding day_of day_answer after_table arrivals_said
   unread q =
-      let t = sym text-is ∙ is-unreadable (take (p - 0) s) f q in
+      let t = sym text_is ∙ is_unreadable (take (p - 0) s) f q in
       (rw t refl, (table_is, rw t refl))
 
   -- the rest decides
-  pub reads : {m n : ℕ} {a : DayReading} {later : List ℕ} → r ≡ TableRead m n → a ≡ stopAnswer s m n (stopLine s p)
-      → later ≡ sets l 0 (stopArrivals s (stopLine s p))
-      → (a ≡ dayAnswer (dayOf s)) × ((then ≡ sets table 0 (tableSaid (tableIn s))) × (later ≡ sets l 0 (arrivalsSaid (dayOf s))))
-  unfolding dayOf
+  pub reads : {m n : ℕ} {a : DayReading} {later : List ℕ} → r ≡ TableRead m n → a ≡ stop_answer s m n (stop_line s p)
+      → later ≡ sets l 0 (stop_arrivals s (stop_line s p))
+      → (a ≡ day_answer (day_of s)) × ((then ≡ sets table 0 (table_said (table_in s))) × (later ≡ sets l 0 (arrivals_said (day_of s))))
+  unfolding day_of
   reads {m} {n} q b c =
-      let t : answer_of (tableIn s) ≡ TableRead m n = sym (f ∙ ap answer_of text-is) ∙ q in (
-        b ∙ ap (λ (k : ℕ). stopAnswer s m n (stopLine s k)) e ∙ table-answers s (stopPlace s) (tableIn s) t,
+      let t : answer_of (table_in s) ≡ TableRead m n = sym (f ∙ ap answer_of text_is) ∙ q in (
+        b ∙ ap (λ (k : ℕ). stop_answer s m n (stop_line s k)) e ∙ table_answers s (stop_place s) (table_in s) t,
         (
           table_is,
-          c ∙ ap (sets l 0) (ap (λ (k : ℕ). stopArrivals s (stopLine s k)) e ∙ table-arrives s (stopPlace s) (tableIn s) t),
+          c ∙ ap (sets l 0) (ap (λ (k : ℕ). stop_arrivals s (stop_line s k)) e ∙ table_arrives s (stop_place s) (table_in s) t),
         ),
       )

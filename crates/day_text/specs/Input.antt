@@ -1,21 +1,21 @@
 -- The input of a rehearsal: a table's text, a line `rehearse STOP`, then a line for each arrival, at most 4,096.
 use Rattle.std.specs.Prelude.{ℕ, zero, suc, ◌+◌, ◌/◌, Bool, List, [], ◌∷◌, ltb, length, take}
-use Rattle.table_text.specs.Text.{Said, says, unreadable as noTable, text_of}
+use Rattle.table_text.specs.Text.{Said, says, unreadable as no_table, text_of}
 use Rattle.scanning.specs.declared.number.Number.{Number}
 use Rattle.scanning.specs.declared.number.Number.TheVariants.{Value, NoNumber}
-use Rattle.day_text.specs.Line.{stopLine, stopPlace, arrivalLine}
+use Rattle.day_text.specs.Line.{stop_line, stop_place, arrival_line}
 use Rattle.day_text.specs.declared.DayReading.{DayReading}
 use Rattle.day_text.specs.declared.DayReading.TheVariants.{Read, Unreadable}
 use Rattle.day_text.specs.declared.line.ArrivalLine.{ArrivalLine}
 use Rattle.day_text.specs.declared.line.ArrivalLine.TheVariants.{Arrived, NoArrival}
 
 -- arrivals of a day, at most
-abbrev pub linesLimit : ℕ
-linesLimit = 4096
+abbrev pub lines_limit : ℕ
+lines_limit = 4096
 
 -- bytes that decide what an input says: a table's text of 4,096, the stop's line of 25 at most, 4,096 lines of 48 at most, and one more
-abbrev pub inputLimit : ℕ
-inputLimit = 200730
+abbrev pub input_limit : ℕ
+input_limit = 200730
 
 -- what an input says: a core count, the table's numbers, the stop, the arrivals' numbers and whether more is left; or nothing, and then a line is named
 pub data DaySays : Type 0 where
@@ -23,57 +23,57 @@ pub data DaySays : Type 0 where
   unreadable : ℕ → DaySays
 
 -- this line's time, task and length, then the later lines' numbers
-unfoldable pub thenLater : (ℕ → List ℕ) → ArrivalLine → List ℕ
-thenLater later (Arrived t i l next) = t ∷ i ∷ l ∷ later next
-thenLater later NoArrival = []
+unfoldable pub then_later : (ℕ → List ℕ) → ArrivalLine → List ℕ
+then_later later (Arrived t i l next) = t ∷ i ∷ l ∷ later next
+then_later later NoArrival = []
 
 -- the numbers of the arrivals from a place on, of f lines at most, until one cannot be read
-unfoldable pub arrivalsFrom : ℕ → List ℕ → ℕ → List ℕ
-arrivalsFrom zero s at = []
-arrivalsFrom (suc f) s at = thenLater (λ next. arrivalsFrom f s next) (arrivalLine s at)
+unfoldable pub arrivals_from : ℕ → List ℕ → ℕ → List ℕ
+arrivals_from zero s at = []
+arrivals_from (suc f) s at = then_later (λ next. arrivals_from f s next) (arrival_line s at)
 
 -- the place after this line and the later ones
-unfoldable pub thenPlace : (ℕ → ℕ) → ℕ → ArrivalLine → ℕ
-thenPlace later at (Arrived t i l next) = later next
-thenPlace later at NoArrival = at
+unfoldable pub then_place : (ℕ → ℕ) → ℕ → ArrivalLine → ℕ
+then_place later at (Arrived t i l next) = later next
+then_place later at NoArrival = at
 
 -- the place after those arrivals
-unfoldable pub placeAfter : ℕ → List ℕ → ℕ → ℕ
-placeAfter zero s at = at
-placeAfter (suc f) s at = thenPlace (λ next. placeAfter f s next) at (arrivalLine s at)
+unfoldable pub place_after : ℕ → List ℕ → ℕ → ℕ
+place_after zero s at = at
+place_after (suc f) s at = then_place (λ next. place_after f s next) at (arrival_line s at)
 
 -- the arrivals from a place on
-abbrev pub arrivalsAt : List ℕ → ℕ → List ℕ
-arrivalsAt s at = arrivalsFrom linesLimit s at
+abbrev pub arrivals_at : List ℕ → ℕ → List ℕ
+arrivals_at s at = arrivals_from lines_limit s at
 
 -- something is left after them: an unreadable line, or one beyond 4,096
 abbrev pub more_at : List ℕ → ℕ → Bool
-more_at s at = ltb (placeAfter linesLimit s at) (length s)
+more_at s at = ltb (place_after lines_limit s at) (length s)
 
 -- the stop, then the arrivals; where there is no stop's line, the line after the table's last is named
-unfoldable pub afterStop : List ℕ → ℕ → List ℕ → Number → DaySays
-afterStop s m xs (Value stop at) = rehearses m xs stop (arrivalsAt s at) (more_at s at)
-afterStop s m xs NoNumber = unreadable (2 + length xs / 2)
+unfoldable pub after_stop : List ℕ → ℕ → List ℕ → Number → DaySays
+after_stop s m xs (Value stop at) = rehearses m xs stop (arrivals_at s at) (more_at s at)
+after_stop s m xs NoNumber = unreadable (2 + length xs / 2)
 
 -- what stands before the stop's line is the table's text
-unfoldable pub afterTable : List ℕ → ℕ → Said → DaySays
-afterTable s p (says m xs) = afterStop s m xs (stopLine s p)
-afterTable s p (noTable line) = unreadable line
+unfoldable pub after_table : List ℕ → ℕ → Said → DaySays
+after_table s p (says m xs) = after_stop s m xs (stop_line s p)
+after_table s p (no_table line) = unreadable line
 
 -- what the table's text says
-abbrev pub tableIn : List ℕ → Said
-tableIn s = text_of (take (stopPlace s) s)
+abbrev pub table_in : List ℕ → Said
+table_in s = text_of (take (stop_place s) s)
 
 -- the whole input
-unfoldable pub dayOf : List ℕ → DaySays
-dayOf s = afterTable s (stopPlace s) (tableIn s)
+unfoldable pub day_of : List ℕ → DaySays
+day_of s = after_table s (stop_place s) (table_in s)
 
 -- the arrivals' numbers, and none if the input is unreadable
-unfoldable pub arrivalsSaid : DaySays → List ℕ
-arrivalsSaid (rehearses m xs stop ys more) = ys
-arrivalsSaid (unreadable line) = []
+unfoldable pub arrivals_said : DaySays → List ℕ
+arrivals_said (rehearses m xs stop ys more) = ys
+arrivals_said (unreadable line) = []
 
 -- the answer: the core count, how many numbers the table has, the stop, how many the arrivals have and whether more is left; or the line that is named
-unfoldable pub dayAnswer : DaySays → DayReading
-dayAnswer (rehearses m xs stop ys more) = Read m (length xs) stop (length ys) more
-dayAnswer (unreadable line) = Unreadable line
+unfoldable pub day_answer : DaySays → DayReading
+day_answer (rehearses m xs stop ys more) = Read m (length xs) stop (length ys) more
+day_answer (unreadable line) = Unreadable line

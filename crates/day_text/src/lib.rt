@@ -1,10 +1,10 @@
 // Reading a rehearsal's input: a table's text, a line `rehearse STOP`, then a line `TIME TASK LENGTH` for each arrival.
 ghost use Rattle.std.specs.Prelude.{◌≡◌, [], ◌∷◌, ◌*◌, ◌≤◌, length};
 ghost use Rattle.std.proofs.lemmas.List.Edits.{sets};
-ghost use Rattle.table_text.specs.Text.{tableSaid};
-ghost use Rattle.day_text.specs.Line.{stopLine};
-ghost use Rattle.day_text.specs.Input.{linesLimit, arrivalsAt, more_at, tableIn, dayOf, arrivalsSaid, dayAnswer};
-ghost use Rattle.day_text.specs.Inner.{stopAnswer, stopArrivals};
+ghost use Rattle.table_text.specs.Text.{table_said};
+ghost use Rattle.day_text.specs.Line.{stop_line};
+ghost use Rattle.day_text.specs.Input.{lines_limit, arrivals_at, more_at, table_in, day_of, arrivals_said, day_answer};
+ghost use Rattle.day_text.specs.Inner.{stop_answer, stop_arrivals};
 
 use crate::line::{ArrivalLine, read_arrival, read_stop, stop_place};
 use lent_numbers::store_wide;
@@ -42,7 +42,7 @@ struct Stored {
 
 // Stores an arrival's numbers, the i-th from 0.
 fn store_arrival(arrivals: &mut [u64], i: usize, time: u64, task: u64, length: u64)
-    requires { i ≤ linesLimit }
+    requires { i ≤ lines_limit }
     ensures { arrivals.new ≡ sets arrivals.old (3 * i) (time ∷ task ∷ length ∷ []) }
 {
     let at = 3 * i;
@@ -53,8 +53,8 @@ fn store_arrival(arrivals: &mut [u64], i: usize, time: u64, task: u64, length: u
 
 // Stores the numbers of the arrivals from a place on.
 fn store_arrivals(text: &[u8], from: usize, arrivals: &mut [u64]) -> Stored
-    ensures numbers_value { (result.numbers ≡ length (arrivalsAt text.now from)) × (result.more ≡ more_at text.now from) }
-    ensures arrivals_after { arrivals.new ≡ sets arrivals.old 0 (arrivalsAt text.now from) }
+    ensures numbers_value { (result.numbers ≡ length (arrivals_at text.now from)) × (result.more ≡ more_at text.now from) }
+    ensures arrivals_after { arrivals.new ≡ sets arrivals.old 0 (arrivals_at text.now from) }
 {
     let mut at = from;
     let mut i = 0;
@@ -91,8 +91,8 @@ fn read_stopped(
     count: usize,
     arrivals: &mut [u64],
 ) -> DayReading
-    ensures value { result ≡ stopAnswer text.now cores count (stopLine text.now place) }
-    ensures arrivals_after { arrivals.new ≡ sets arrivals.old 0 (stopArrivals text.now (stopLine text.now place)) }
+    ensures value { result ≡ stop_answer text.now cores count (stop_line text.now place) }
+    ensures arrivals_after { arrivals.new ≡ sets arrivals.old 0 (stop_arrivals text.now (stop_line text.now place)) }
 {
     match read_stop(text, place) {
         Number::NoNumber => {
@@ -116,9 +116,9 @@ fn read_stopped(
 
 // What the input says. Its numbers are stored as far as the lent lists reach: the table's if its text can be read, the arrivals' if the input can.
 pub fn read_day(text: &[u8], table: &mut [u32], arrivals: &mut [u64]) -> DayReading
-    ensures value { result ≡ dayAnswer (dayOf text.now) }
-    ensures table_after { table.new ≡ sets table.old 0 (tableSaid (tableIn text.now)) }
-    ensures arrivals_after { arrivals.new ≡ sets arrivals.old 0 (arrivalsSaid (dayOf text.now)) }
+    ensures value { result ≡ day_answer (day_of text.now) }
+    ensures table_after { table.new ≡ sets table.old 0 (table_said (table_in text.now)) }
+    ensures arrivals_after { arrivals.new ≡ sets arrivals.old 0 (arrivals_said (day_of text.now)) }
 {
     let place = stop_place(text);
     match read_text(&text[0..place], table) {

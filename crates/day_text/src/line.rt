@@ -1,6 +1,6 @@
 // Reading the stop's line and an arrival's.
 ghost use Rattle.std.specs.Prelude.{◌≡◌, ◌<◌, ◌≤◌, length};
-ghost use Rattle.day_text.specs.Line.{dayBound, stopLine, stopHere, stopPlace, afterTime, arrivalLine};
+ghost use Rattle.day_text.specs.Line.{day_bound, stop_line, stop_here, stop_place, after_time, arrival_line};
 ghost use Rattle.scanning.specs.Line.{pair_at};
 
 use line_place::line_starts;
@@ -21,7 +21,7 @@ pub enum ArrivalLine {
 
 // The stop at a place, and the place after its line.
 pub(crate) fn read_stop(text: &[u8], at: usize) -> Number
-    ensures { result ≡ stopLine text.now at }
+    ensures { result ≡ stop_line text.now at }
 {
     match read_word(text, at, b"rehearse ") {
         Word::NoWord => Number::NoNumber,
@@ -32,7 +32,7 @@ pub(crate) fn read_stop(text: &[u8], at: usize) -> Number
 // Whether a stop's line starts at a place.
 fn stop_here(text: &[u8], at: usize) -> bool
     requires { at < length text.now }
-    ensures { result ≡ stopHere text.now at }
+    ensures { result ≡ stop_here text.now at }
 {
     if !line_starts(text, at) {
         return false;
@@ -45,7 +45,7 @@ fn stop_here(text: &[u8], at: usize) -> bool
 
 // Where the first stop's line stands, and the text's end if there is none.
 pub(crate) fn stop_place(text: &[u8]) -> usize
-    ensures value { result ≡ stopPlace text.now }
+    ensures value { result ≡ stop_place text.now }
     ensures upper_bound { result ≤ length text.now }
 {
     let mut at = 0;
@@ -60,7 +60,7 @@ pub(crate) fn stop_place(text: &[u8]) -> usize
 
 // An arrival's task and length, after its time.
 fn read_rest(text: &[u8], at: usize, time: u64) -> ArrivalLine
-    ensures { result ≡ afterTime time (pair_at dayBound text.now at) }
+    ensures { result ≡ after_time time (pair_at day_bound text.now at) }
 {
     match read_pair(text, at, BOUND) {
         Pair::NoPair => ArrivalLine::NoArrival,
@@ -70,7 +70,7 @@ fn read_rest(text: &[u8], at: usize, time: u64) -> ArrivalLine
 
 // The arrival's line at a place.
 pub(crate) fn read_arrival(text: &[u8], at: usize) -> ArrivalLine
-    ensures { result ≡ arrivalLine text.now at }
+    ensures { result ≡ arrival_line text.now at }
 {
     match read_field(text, at, BOUND, BLANK) {
         Number::NoNumber => ArrivalLine::NoArrival,

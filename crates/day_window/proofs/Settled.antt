@@ -3,5 +3,5 @@ use Rattle.lists.specs.Settled.{SettledLent}
 use Rattle.day_window.proofs.Windows.{settled}
 use Rattle.day_window.proofs.put_within.Reads as PutWithin
 
-pub put-within : SettledLent (λ κs e. e.0.now) PutWithin.Post
-put-within κs a x y e f p q = settled p.0 q.0
+pub put_within_lem : SettledLent (λ κs e. e.0.now) PutWithin.Post
+put_within_lem κs a x y e f p q = settled p.0 q.0

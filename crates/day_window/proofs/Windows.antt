@@ -16,9 +16,9 @@ pub none : (l : List ℕ) (s i : ℕ) → Windowed l s i [] l i
 none l s i = record { bytes = ap (λ (t : List ℕ). sets l (i - s) t) (sym (drop-nil (s - i))); end = omega arith }
 
 -- the stores of two texts, one after the other, where the window begins in the first or before
-seam-in : (a xs ys : List ℕ) (s i : ℕ) → s ≤ i + length xs
+seam_in : (a xs ys : List ℕ) (s i : ℕ) → s ≤ i + length xs
     → sets (sets a (i - s) (drop (s - i) xs)) (i + length xs - s) (drop (s - (i + length xs)) ys) ≡ sets a (i - s) (drop (s - i) (xs ++ ys))
-seam-in a xs ys s i h =
+seam_in a xs ys s i h =
     let l = length-drop (s - i) xs in
     let e : i + length xs - s ≡ (i - s) + length (drop (s - i) xs) = omega (arith, l) in
     let z : s - (i + length xs) ≡ 0 = omega arith in
@@ -29,9 +29,9 @@ seam-in a xs ys s i h =
     ∙ ap (λ (t : List ℕ). sets a (i - s) t) (sym (drop-append-le (s - i) xs ys (omega arith)))
 
 -- and where it begins after it
-seam-out : (a xs ys : List ℕ) (s i : ℕ) → i + length xs ≤ s
+seam_out : (a xs ys : List ℕ) (s i : ℕ) → i + length xs ≤ s
     → sets (sets a (i - s) (drop (s - i) xs)) (i + length xs - s) (drop (s - (i + length xs)) ys) ≡ sets a (i - s) (drop (s - i) (xs ++ ys))
-seam-out a xs ys s i h =
+seam_out a xs ys s i h =
     let e : i + length xs - s ≡ i - s = omega arith in
     let d : length xs + (s - (i + length xs)) ≡ s - i = omega arith in
     ap (λ (t : List ℕ). sets (sets a (i - s) t) (i + length xs - s) (drop (s - (i + length xs)) ys)) (drop_of_length-le xs {i = s - i} (omega arith))
@@ -45,7 +45,7 @@ then {a} {b} {d} {s} {i} {j} {k} {xs} {ys} p q = record {
       q.bytes
       ∙ ap (λ (m : ℕ). sets b (m - s) (drop (s - m) ys)) p.end
       ∙ ap (λ (l : List ℕ). sets l (i + length xs - s) (drop (s - (i + length xs)) ys)) p.bytes
-      ∙ either (i + length xs) s (λ h. seam-out a xs ys s i (omega arith)) (λ h. seam-in a xs ys s i h);
+      ∙ either (i + length xs) s (λ h. seam_out a xs ys s i (omega arith)) (λ h. seam_in a xs ys s i h);
   end = q.end ∙ ap (λ (m : ℕ). m + length ys) p.end ∙ add_assoc i (length xs) (length ys) ∙ ap (λ (m : ℕ). i + m) (sym (length-append xs ys));
 }
 

@@ -1,7 +1,7 @@
 // A line in a window of a longer text.
 ghost use Rattle.std.specs.Prelude.{◌+◌, ◌≤◌};
-ghost use Rattle.writing.specs.Inner.{placeLimit};
-ghost use Rattle.day_lines.specs.Lines.{eventText};
+ghost use Rattle.writing.specs.Inner.{place_limit};
+ghost use Rattle.day_lines.specs.Lines.{event_text};
 ghost use Rattle.day_window.specs.Window.{Windowed};
 
 use day_lines::{Event, put_event};
@@ -12,7 +12,7 @@ const LINE: usize = 180;
 
 // A line of which what lies before the window is left out.
 fn put_cut(out: &mut [u8], skipped: usize, event: Event) -> usize
-    ensures windowed { Windowed out.old skipped 0 (eventText event) out.new result }
+    ensures windowed { Windowed out.old skipped 0 (event_text event) out.new result }
     ensures upper_bound { result ≤ 180 }
 {
     let mut line = [0u8; LINE];
@@ -25,8 +25,8 @@ fn put_cut(out: &mut [u8], skipped: usize, event: Event) -> usize
 
 // An event's line at a place of a text, of which a buffer holds what stands from another place on, as far as it reaches.
 pub fn put_within(out: &mut [u8], skip: usize, at: usize, event: Event) -> usize
-    requires { at + 180 ≤ placeLimit }
-    ensures windowed { Windowed out.old skip at (eventText event) out.new result }
+    requires { at + 180 ≤ place_limit }
+    ensures windowed { Windowed out.old skip at (event_text event) out.new result }
     ensures upper_bound { result ≤ at + 180 }
 {
     if skip <= at {

@@ -6,21 +6,21 @@ use mathlib.Core.List.Memᴰ
 use mathlib.Core.List.{List, [], ◌∷◌}
 use native.Mathlib.Omega.{arith}
 use lib.IntN.{negsuc}
-use Rattle.units.specs.Limits.{periodLimit}
+use Rattle.units.specs.Limits.{period_limit}
 use Rattle.units.specs.Units.{ticks}
 use Rattle.planning.specs.declared.Plan.{Plan}
 use Rattle.planning.specs.Plan.{plan_of}
-use Rattle.soundness.specs.Plan.{planSound}
-use Rattle.soundness.proofs.PlannedShape.{started-plan}
-use Rattle.arrivals.specs.Arrivals.{arrivalTask, arrivalLength}
-use Rattle.run_lengths.specs.Work.{freshWork, withLength, withoutLength}
+use Rattle.soundness.specs.Plan.{plan_sound}
+use Rattle.soundness.proofs.PlannedShape.{started_plan}
+use Rattle.arrivals.specs.Arrivals.{arrival_task, arrival_length}
+use Rattle.run_lengths.specs.Work.{fresh_work, with_length, without_length}
 use Rattle.day_lines.specs.declared.Event.TheVariants.{Finished}
-use Rattle.day_rules.specs.Day.{startDay, ran, taken, lookAt, runOn, finished, dayAt, eventsOf}
+use Rattle.day_rules.specs.Day.{start_day, ran, taken, look_at, run_on, finished, day_at, events_of}
 use Rattle.day.proofs.At.{Fine}
-use Rattle.day.proofs.Example.{three-jobs}
+use Rattle.day.proofs.Example.{three_jobs}
 use Rattle.release_order.proofs.Example.{defs}
-use Rattle.day_words.specs.Words.{Among, hasIn, ticksOf, accepted, length_of, FirstHad, Rising}
-use Rattle.day_words.proofs.Finishes.{finished-first}
+use Rattle.day_words.specs.Words.{Among, has_in, ticks_of, accepted, length_of, FirstHad, Rising}
+use Rattle.day_words.proofs.Finishes.{finished_first}
 
 abbrev thrice : Plan
 thrice = (plan_of 2 (2 ∷ 3 ∷ 2 ∷ 3 ∷ 2 ∷ 3 ∷ [])).plan
@@ -29,16 +29,16 @@ abbrev once : List ℕ
 once = 0 ∷ 1 ∷ 2 ∷ 0 ∷ 2 ∷ 2 ∷ 0 ∷ 3 ∷ 2 ∷ []
 
 -- core 1 has task 3's run in both ticks before its finish, its length
-three-ticks : ticksOf thrice once 0 3 1 2 ≡ 2
-unfolding defs dayAt startDay taken lookAt runOn finished freshWork withLength withoutLength hasIn
-three-ticks = refl
+three_ticks : ticks_of thrice once 0 3 1 2 ≡ 2
+unfolding defs day_at start_day taken look_at run_on finished fresh_work with_length without_length has_in
+three_ticks = refl
 
-three-length : length_of thrice once 4 3 1 ≡ 2
-unfolding defs dayAt startDay taken lookAt runOn finished freshWork withLength withoutLength accepted
-three-length = refl
+three_length : length_of thrice once 4 3 1 ≡ 2
+unfolding defs day_at start_day taken look_at run_on finished fresh_work with_length without_length accepted
+three_length = refl
 
 -- all tests pass
-sound : planSound thrice ≡ true
+sound : plan_sound thrice ≡ true
 unfolding defs
 sound = refl
 
@@ -52,7 +52,7 @@ three = refl
 
 pub fine : Fine thrice once
 fine = record {
-  shaped = started-plan 2 (2 ∷ 3 ∷ 2 ∷ 3 ∷ 2 ∷ 3 ∷ []) accepts;
+  shaped = started_plan 2 (2 ∷ 3 ∷ 2 ∷ 3 ∷ 2 ∷ 3 ∷ []) accepts;
   sound = sound;
   from = from;
   to = to;
@@ -60,25 +60,25 @@ fine = record {
   fits = fits;
 }
   where
-    from : (k : ℕ) → k < 3 → 1 ≤ arrivalTask once k
+    from : (k : ℕ) → k < 3 → 1 ≤ arrival_task once k
     from zero l = omega arith
     from (suc zero) l = omega arith
     from (suc (suc zero)) l = omega arith
     from (suc (suc (suc k))) l = absurd (omega (arith, l))
 
-    to : (k : ℕ) → k < 3 → arrivalTask once k ≤ thrice.count
+    to : (k : ℕ) → k < 3 → arrival_task once k ≤ thrice.count
     to zero l = rw three (omega arith)
     to (suc zero) l = rw three (omega arith)
     to (suc (suc zero)) l = rw three (omega arith)
     to (suc (suc (suc k))) l = absurd (omega (arith, l))
 
-    some : (k : ℕ) → k < 3 → 1 ≤ arrivalLength once k
+    some : (k : ℕ) → k < 3 → 1 ≤ arrival_length once k
     some zero l = omega arith
     some (suc zero) l = omega arith
     some (suc (suc zero)) l = omega arith
     some (suc (suc (suc k))) l = absurd (omega (arith, l))
 
-    fits : (k : ℕ) → k < 3 → arrivalLength once k ≤ periodLimit
+    fits : (k : ℕ) → k < 3 → arrival_length once k ≤ period_limit
     fits zero l = omega arith
     fits (suc zero) l = omega arith
     fits (suc (suc zero)) l = omega arith
@@ -91,7 +91,7 @@ rising (suc (suc k)) l = absurd (omega (arith, l))
 
 -- so the finish at 2 is said, and is the first instant at which its run has had its length
 pub first : FirstHad thrice once 4 0 3 1 2
-first = finished-first thrice once fine 4 (omega arith) 0 3 1 2 (negsuc 0) among
+first = finished_first thrice once fine 4 (omega arith) 0 3 1 2 (negsuc 0) among
   where
-    among : Among (Finished (ran 0 3 1) (ticks 2) (negsuc 0)) (eventsOf thrice once 4)
-    among = rw three-jobs (Memᴰ.head refl)
+    among : Among (Finished (ran 0 3 1) (ticks 2) (negsuc 0)) (events_of thrice once 4)
+    among = rw three_jobs (Memᴰ.head refl)

@@ -15,18 +15,18 @@ use Rattle.lists.proofs.Tests.{by_cases}
 use Rattle.units.specs.Units.{ticks}
 use Rattle.units.specs.declared.ticks.Ticks.{Ticks}
 use Rattle.planning.specs.declared.Plan.{Plan}
-use Rattle.dispatch.specs.Record.{stateAt}
-use Rattle.arrivals.specs.Arrivals.{arrivalsIn, arrivalTime, arrivalTask}
+use Rattle.dispatch.specs.Record.{state_at}
+use Rattle.arrivals.specs.Arrivals.{arrivals_in, arrival_time, arrival_task}
 use Rattle.goings.specs.declared.Going.{Going}
-use Rattle.goings.specs.Going.{noGoing, same}
+use Rattle.goings.specs.Going.{no_going, same}
 use Rattle.day_lines.specs.declared.Ran.{Ran}
 use Rattle.day_lines.specs.declared.Event.{Event}
 use Rattle.day_lines.specs.declared.Event.TheVariants.{Finished, Refused, Spanned, Stopped, Unfinished}
-use Rattle.day_rules.specs.Day.{Day, goingAt, ran, spanEnd, dayAt, closes, left_of, unfinished, eventsOf}
-use Rattle.day.specs.Desk.{Desk, run_of, arrivalNo, takes, arrivedBy, choiceAt, number_of, looksAt, lookedAt, ranOn, done_of, endsOn, endedBy, deskAt}
-use Rattle.day.proofs.Looked.{looked-past}
+use Rattle.day_rules.specs.Day.{Day, going_at, ran, span_end, day_at, closes, left_of, unfinished, events_of}
+use Rattle.day.specs.Desk.{Desk, run_of, arrival_no, takes, arrived_by, choice_at, number_of, looks_at, looked_at, ran_on, done_of, ends_on, ended_by, desk_at}
+use Rattle.day.proofs.Looked.{looked_past}
 use Rattle.day_words.specs.Words.{Among, counted}
-use Rattle.day_words.proofs.Model.{cameTo, came, ranIn, endTo, desk-next}
+use Rattle.day_words.proofs.Model.{came_to, came, ran_in, end_to, desk_next}
 
 -- each thing that is said has a property
 abbrev pub Each : (Event → Type 0) → List Event → Type 0
@@ -45,36 +45,36 @@ pub each_more : (P : Event → Type 0) (es fs : List Event) → Each P es → Ea
 each_more P [] fs a b = b
 each_more P (e ∷ es) fs a b = (a.0, each_more P es fs a.1 b)
 
-pub counted-more : (f : Event → Bool) (es fs : List Event) → counted f (es ++ fs) ≡ counted f es + counted f fs
-counted-more f [] fs = omega arith
-counted-more f (e ∷ es) fs = omega (arith, counted-more f es fs)
+pub counted_more : (f : Event → Bool) (es fs : List Event) → counted f (es ++ fs) ≡ counted f es + counted f fs
+counted_more f [] fs = omega arith
+counted_more f (e ∷ es) fs = omega (arith, counted_more f es fs)
 
 -- one thing more
-pub counted-one : (f : Event → Bool) (es : List Event) (e : Event) → counted f (es ++ (e ∷ [])) ≡ counted f es + bit (f e)
-counted-one f es e = counted-more f es (e ∷ []) ∙ omega arith
+pub counted_one : (f : Event → Bool) (es : List Event) (e : Event) → counted f (es ++ (e ∷ [])) ≡ counted f es + bit (f e)
+counted_one f es e = counted_more f es (e ∷ []) ∙ omega arith
 
 -- finishes leave the cores' runs
-pub ended-going : (t n : ℕ) (d : Desk) → (endedBy t n d).going ≡ d.going
-unfolding endsOn
-ended-going t zero d = refl
-ended-going t (suc n) d =
-    by_cases (done_of (endedBy t n d) (run_of (endedBy t n d) n).task) (λ e. rw e (ended-going t n d)) (λ e. rw e (ended-going t n d))
+pub ended_going : (t n : ℕ) (d : Desk) → (ended_by t n d).going ≡ d.going
+unfolding ends_on
+ended_going t zero d = refl
+ended_going t (suc n) d =
+    by_cases (done_of (ended_by t n d) (run_of (ended_by t n d) n).task) (λ e. rw e (ended_going t n d)) (λ e. rw e (ended_going t n d))
 
 -- a core whose span has not ended has its run
-pub closed-past : (t : ℕ) (d : Day) (n p : ℕ) → n ≤ p → goingAt (closes t n d) p ≡ goingAt d p
-closed-past t d zero p l = refl
-closed-past t d (suc n) p l =
-    get_or-set_other (closes t n d).going n p _ noGoing (λ e. omega (arith, e)) ∙ closed-past t d n p (omega (arith, l))
+pub closed_past : (t : ℕ) (d : Day) (n p : ℕ) → n ≤ p → going_at (closes t n d) p ≡ going_at d p
+closed_past t d zero p l = refl
+closed_past t d (suc n) p l =
+    get_or-set_other (closes t n d).going n p _ no_going (λ e. omega (arith, e)) ∙ closed_past t d n p (omega (arith, l))
 
 -- unfinished runs are said alone after the stop
 module _ (P : Event → Type 0) (u : (x : Ran) (due : Ticks) (had n : ℕ) → P (Unfinished x due had n)) (d : Day) where
-  left-of : (i n : ℕ) → Each P (left_of d i n)
-  left-of i zero = _
-  left-of i (suc n) = each_more P (left_of d i n) (_ ∷ []) (left-of i n) (u _ _ _ _, _)
+  left_of_lem : (i n : ℕ) → Each P (left_of d i n)
+  left_of_lem i zero = _
+  left_of_lem i (suc n) = each_more P (left_of d i n) (_ ∷ []) (left_of_lem i n) (u _ _ _ _, _)
 
-  pub left-each : (n : ℕ) → Each P (unfinished d n)
-  left-each zero = _
-  left-each (suc n) = each_more P (unfinished d n) (left_of d n (stateAt d.box n).live) (left-each n) (left-of n (stateAt d.box n).live)
+  pub left_each : (n : ℕ) → Each P (unfinished d n)
+  left_each zero = _
+  left_each (suc n) = each_more P (unfinished d n) (left_of d n (state_at d.box n).live) (left_each n) (left_of_lem n (state_at d.box n).live)
 
 module _ (Q : List Event → Type 0) where
   -- it is kept by one thing more
@@ -82,88 +82,88 @@ module _ (Q : List Event → Type 0) where
   KeptBy e = (es : List Event) → Q es → Q (es ++ (e ∷ []))
 
   -- so by many
-  pub keeps-each : (es fs : List Event) → Each KeptBy fs → Q es → Q (es ++ fs)
-  keeps-each es [] h q = rw (append-nil es) q
-  keeps-each es (e ∷ fs) h q = subst Q (append_assoc es (e ∷ []) fs) (keeps-each (es ++ (e ∷ [])) fs h.1 (h.0 es q))
+  pub keeps_each : (es fs : List Event) → Each KeptBy fs → Q es → Q (es ++ fs)
+  keeps_each es [] h q = rw (append-nil es) q
+  keeps_each es (e ∷ fs) h q = subst Q (append_assoc es (e ∷ []) fs) (keeps_each (es ++ (e ∷ [])) fs h.1 (h.0 es q))
 
   -- by a span that ends
-  pub keeps-span : (p : ℕ) (g : Going) (i n t : ℕ) (es : List Event) → KeptBy (Spanned (ran p g.task g.run) g.from (ticks t)) → Q es
-      → Q (es ++ spanEnd p g i n t)
-  keeps-span p g i n t es h q = by_cases (same g i n || eqb g.task 0) (λ e. rw (e, append-nil es) q) (λ e. rw e (h es q))
+  pub keeps_span : (p : ℕ) (g : Going) (i n t : ℕ) (es : List Event) → KeptBy (Spanned (ran p g.task g.run) g.from (ticks t)) → Q es
+      → Q (es ++ span_end p g i n t)
+  keeps_span p g i n t es h q = by_cases (same g i n || eqb g.task 0) (λ e. rw (e, append-nil es) q) (λ e. rw e (h es q))
 
   module _ (pl : Plan) (xs : List ℕ) (t : ℕ) (d : Desk) where
     -- by arrivals
-    pub keeps-arrived : (n : ℕ)
-        → ((k : ℕ) → k < n → arrivalTime xs k ≡ t → (arrivalNo pl xs t k (arrivedBy pl xs t k d) ≡ 0 → ⊥)
-        → KeptBy (Refused (arrivalNo pl xs t k (arrivedBy pl xs t k d)) (suc k) (arrivalTask xs k) (ticks t)))
-        → Q d.said → Q (arrivedBy pl xs t n d).said
+    pub keeps_arrived : (n : ℕ)
+        → ((k : ℕ) → k < n → arrival_time xs k ≡ t → (arrival_no pl xs t k (arrived_by pl xs t k d) ≡ 0 → ⊥)
+        → KeptBy (Refused (arrival_no pl xs t k (arrived_by pl xs t k d)) (suc k) (arrival_task xs k) (ticks t)))
+        → Q d.said → Q (arrived_by pl xs t n d).said
     unfolding takes
-    keeps-arrived zero h q = q
-    keeps-arrived (suc n) h q =
-        let e = arrivedBy pl xs t n d in
-        let r = keeps-arrived n (λ k l. h k (omega (arith, l))) q in
-        by_cases (eqb (arrivalTime xs n) t)
-        (λ a. rw a (by_cases (eqb (arrivalNo pl xs t n e) 0)
+    keeps_arrived zero h q = q
+    keeps_arrived (suc n) h q =
+        let e = arrived_by pl xs t n d in
+        let r = keeps_arrived n (λ k l. h k (omega (arith, l))) q in
+        by_cases (eqb (arrival_time xs n) t)
+        (λ a. rw a (by_cases (eqb (arrival_no pl xs t n e) 0)
         (λ b. rw (b, append-nil e.said) r)
-        (λ b. rw b (h n (omega arith) (eqb-true (arrivalTime xs n) t a) (eqb-false (arrivalNo pl xs t n e) 0 b) e.said r))))
+        (λ b. rw b (h n (omega arith) (eqb-true (arrival_time xs n) t a) (eqb-false (arrival_no pl xs t n e) 0 b) e.said r))))
         (λ a. rw a r)
 
     -- by looks
-    pub keeps-looked : (n : ℕ)
+    pub keeps_looked : (n : ℕ)
         → ((p : ℕ) → p < n → KeptBy (Spanned (ran p (run_of d p).task (run_of d p).run) (run_of d p).from (ticks t)))
-        → Q d.said → Q (lookedAt pl t n d).said
-    unfolding looksAt
-    keeps-looked zero h q = q
-    keeps-looked (suc n) h q =
-        let e = lookedAt pl t n d in
-        let r = keeps-looked n (λ p l. h p (omega (arith, l))) q in
-        let i = choiceAt pl t e n in
-        keeps-span n (run_of e n) i (number_of e i) t e.said (rw (looked-past pl t d n n (omega arith)) (h n (omega arith))) r
+        → Q d.said → Q (looked_at pl t n d).said
+    unfolding looks_at
+    keeps_looked zero h q = q
+    keeps_looked (suc n) h q =
+        let e = looked_at pl t n d in
+        let r = keeps_looked n (λ p l. h p (omega (arith, l))) q in
+        let i = choice_at pl t e n in
+        keeps_span n (run_of e n) i (number_of e i) t e.said (rw (looked_past pl t d n n (omega arith)) (h n (omega arith))) r
 
   -- by finishes
-  pub keeps-ended : (t : ℕ) (d : Desk) (n : ℕ)
-      → ((p : ℕ) → p < n → done_of (endedBy t p d) (run_of (endedBy t p d) p).task ≡ true → (late : ℤ)
-      → KeptBy (Finished (ran p (run_of (endedBy t p d) p).task (run_of (endedBy t p d) p).run) (ticks t) late))
-      → Q d.said → Q (endedBy t n d).said
-  unfolding endsOn
-  keeps-ended t d zero h q = q
-  keeps-ended t d (suc n) h q =
-      let e = endedBy t n d in
-      let r = keeps-ended t d n (λ p l. h p (omega (arith, l))) q in
+  pub keeps_ended : (t : ℕ) (d : Desk) (n : ℕ)
+      → ((p : ℕ) → p < n → done_of (ended_by t p d) (run_of (ended_by t p d) p).task ≡ true → (late : ℤ)
+      → KeptBy (Finished (ran p (run_of (ended_by t p d) p).task (run_of (ended_by t p d) p).run) (ticks t) late))
+      → Q d.said → Q (ended_by t n d).said
+  unfolding ends_on
+  keeps_ended t d zero h q = q
+  keeps_ended t d (suc n) h q =
+      let e = ended_by t n d in
+      let r = keeps_ended t d n (λ p l. h p (omega (arith, l))) q in
       by_cases (done_of e (run_of e n).task) (λ a. rw a (h n (omega arith) a _ e.said r)) (λ a. rw a r)
 
   module _ (pl : Plan) (xs : List ℕ) where
     -- by a tick
-    pub keeps-tick : (t : ℕ)
-        → ((k : ℕ) → k < arrivalsIn xs → arrivalTime xs k ≡ t → (arrivalNo pl xs t k (cameTo pl xs t k) ≡ 0 → ⊥)
-        → KeptBy (Refused (arrivalNo pl xs t k (cameTo pl xs t k)) (suc k) (arrivalTask xs k) (ticks t)))
+    pub keeps_tick : (t : ℕ)
+        → ((k : ℕ) → k < arrivals_in xs → arrival_time xs k ≡ t → (arrival_no pl xs t k (came_to pl xs t k) ≡ 0 → ⊥)
+        → KeptBy (Refused (arrival_no pl xs t k (came_to pl xs t k)) (suc k) (arrival_task xs k) (ticks t)))
         → ((p : ℕ) → p < pl.cores → let g = run_of (came pl xs t) p in KeptBy (Spanned (ran p g.task g.run) g.from (ticks t)))
-        → ((p : ℕ) → p < pl.cores → let e = endTo pl xs t p in done_of e (run_of e p).task ≡ true → (late : ℤ)
+        → ((p : ℕ) → p < pl.cores → let e = end_to pl xs t p in done_of e (run_of e p).task ≡ true → (late : ℤ)
         → KeptBy (Finished (ran p (run_of e p).task (run_of e p).run) (ticks (suc t)) late))
-        → Q (deskAt pl xs t).said → Q (deskAt pl xs (suc t)).said
-    unfolding ranOn
-    keeps-tick t a b c q =
-        rw (desk-next pl xs t)
-        (keeps-ended (suc t) (ranIn pl xs t) pl.cores c
-        (keeps-looked pl xs t (came pl xs t) pl.cores b (keeps-arrived pl xs t (deskAt pl xs t) (arrivalsIn xs) a q)))
+        → Q (desk_at pl xs t).said → Q (desk_at pl xs (suc t)).said
+    unfolding ran_on
+    keeps_tick t a b c q =
+        rw (desk_next pl xs t)
+        (keeps_ended (suc t) (ran_in pl xs t) pl.cores c
+        (keeps_looked pl xs t (came pl xs t) pl.cores b (keeps_arrived pl xs t (desk_at pl xs t) (arrivals_in xs) a q)))
 
   -- by the spans that end at the stop
-  pub keeps-closed : (t : ℕ) (d : Day) (n : ℕ)
-      → ((p : ℕ) → p < n → let g = goingAt d p in KeptBy (Spanned (ran p g.task g.run) g.from (ticks t)))
+  pub keeps_closed : (t : ℕ) (d : Day) (n : ℕ)
+      → ((p : ℕ) → p < n → let g = going_at d p in KeptBy (Spanned (ran p g.task g.run) g.from (ticks t)))
       → Q d.said → Q (closes t n d).said
-  keeps-closed t d zero h q = q
-  keeps-closed t d (suc n) h q =
+  keeps_closed t d zero h q = q
+  keeps_closed t d (suc n) h q =
       let e = closes t n d in
-      keeps-span n (goingAt e n) 0 0 t e.said (rw (closed-past t d n n (omega arith)) (h n (omega arith)))
-      (keeps-closed t d n (λ p l. h p (omega (arith, l))) q)
+      keeps_span n (going_at e n) 0 0 t e.said (rw (closed_past t d n n (omega arith)) (h n (omega arith)))
+      (keeps_closed t d n (λ p l. h p (omega (arith, l))) q)
 
   -- by all that is said at the stop
-  pub keeps-stop : (pl : Plan) (xs : List ℕ) (s : ℕ)
-      → ((p : ℕ) → p < pl.cores → let g = goingAt (dayAt pl xs s) p in KeptBy (Spanned (ran p g.task g.run) g.from (ticks s)))
+  pub keeps_stop : (pl : Plan) (xs : List ℕ) (s : ℕ)
+      → ((p : ℕ) → p < pl.cores → let g = going_at (day_at pl xs s) p in KeptBy (Spanned (ran p g.task g.run) g.from (ticks s)))
       → KeptBy (Stopped (ticks s)) → ((x : Ran) (due : Ticks) (had n : ℕ) → KeptBy (Unfinished x due had n))
-      → Q (dayAt pl xs s).said → Q (eventsOf pl xs s)
-  unfolding eventsOf
-  keeps-stop pl xs s a b c q =
-      let d = dayAt pl xs s in
-      keeps-each (closes s pl.cores d).said (Stopped (ticks s) ∷ unfinished d pl.count) (b, left-each KeptBy c d pl.count)
-      (keeps-closed s d pl.cores a q)
+      → Q (day_at pl xs s).said → Q (events_of pl xs s)
+  unfolding events_of
+  keeps_stop pl xs s a b c q =
+      let d = day_at pl xs s in
+      keeps_each (closes s pl.cores d).said (Stopped (ticks s) ∷ unfinished d pl.count) (b, left_each KeptBy c d pl.count)
+      (keeps_closed s d pl.cores a q)

@@ -11,12 +11,12 @@ use Rattle.lists.specs.Lists.{bit}
 use Rattle.lists.proofs.Tests.{by_cases}
 use Rattle.units.specs.Units.{ticks}
 use Rattle.goings.specs.declared.Going.{Going}
-use Rattle.goings.specs.Going.{same, goingOf}
+use Rattle.goings.specs.Going.{same, going_of}
 use Rattle.day_lines.specs.declared.Event.{Event}
 use Rattle.day_lines.specs.declared.Event.TheVariants.{Finished, Refused, Spanned, Stopped, Unfinished}
-use Rattle.day_rules.specs.Day.{ran, spanEnd}
+use Rattle.day_rules.specs.Day.{ran, span_end}
 use Rattle.day_words.specs.Words.{counted, covers}
-use Rattle.day_words.proofs.Said.{Each, each_more, counted-one}
+use Rattle.day_words.proofs.Said.{Each, each_more, counted_one}
 
 -- a span of core p names the run that the core has in each tick of it
 abbrev pub Names : (ℕ → Going) → ℕ → Event → Type 0
@@ -40,21 +40,21 @@ pub record Closed (has : ℕ → Going) (p t : ℕ) (es : List Event) : Type 0 w
   pub named : Each (Names has p) es
 
 -- another thing is said
-pub other-closed : (has : ℕ → Going) (p t : ℕ) (es : List Event) → Closed has p t es → (e : Event) → ((u : ℕ) → covers p u e ≡ false) → Names has p e
+pub other_closed : (has : ℕ → Going) (p t : ℕ) (es : List Event) → Closed has p t es → (e : Event) → ((u : ℕ) → covers p u e ≡ false) → Names has p e
     → Closed has p t (es ++ (e ∷ []))
-other-closed has p t es c e h n = record {
-  past = λ u l. counted-one (covers p u) es e ∙ rw (h u) (omega (arith, c.past u l));
+other_closed has p t es c e h n = record {
+  past = λ u l. counted_one (covers p u) es e ∙ rw (h u) (omega (arith, c.past u l));
   named = each_more (Names has p) es (e ∷ []) c.named (n, _);
 }
 
-and-false : (a b : Bool) → b ≡ false → (a && b) ≡ false
-and-false true b e = e
-and-false false b e = refl
+and_false : (a b : Bool) → b ≡ false → (a && b) ≡ false
+and_false true b e = e
+and_false false b e = refl
 
 module _ (has : ℕ → Going) (p t : ℕ) (es : List Event) (g : Going) (s : SpanAt has p t es g) where
   -- another thing is said
-  pub other-span : (e : Event) → ((u : ℕ) → covers p u e ≡ false) → Names has p e → SpanAt has p t (es ++ (e ∷ [])) g
-  other-span e h n = record {
+  pub other_span : (e : Event) → ((u : ℕ) → covers p u e ≡ false) → Names has p e → SpanAt has p t (es ++ (e ∷ [])) g
+  other_span e h n = record {
     from = s.from;
     past = λ u l. let c : counted (covers p u) (es ++ (e ∷ [])) ≡ counted (covers p u) es = same_count u in omega (arith, c, s.past u l);
     ahead = λ u l. same_count u ∙ s.ahead u l;
@@ -63,14 +63,14 @@ module _ (has : ℕ → Going) (p t : ℕ) (es : List Event) (g : Going) (s : Sp
   }
     where
       same_count : (u : ℕ) → counted (covers p u) (es ++ (e ∷ [])) ≡ counted (covers p u) es
-      same_count u = counted-one (covers p u) es e ∙ rw (h u) (omega arith)
+      same_count u = counted_one (covers p u) es e ∙ rw (h u) (omega arith)
 
   -- a span of another core ends
-  pub other-core : (q : ℕ) → (q ≡ p → ⊥) → (g' : Going) (i n w : ℕ) → SpanAt has p t (es ++ spanEnd q g' i n w) g
-  other-core q d g' i n w =
+  pub other_core : (q : ℕ) → (q ≡ p → ⊥) → (g' : Going) (i n w : ℕ) → SpanAt has p t (es ++ span_end q g' i n w) g
+  other_core q d g' i n w =
       by_cases (same g' i n || eqb g'.task 0)
       (λ e. rw (e, append-nil es) s)
-      (λ e. rw e (other-span (Spanned (ran q g'.task g'.run) g'.from (ticks w))
+      (λ e. rw e (other_span (Spanned (ran q g'.task g'.run) g'.from (ticks w))
       (λ u. rw (ne_eqb (suc q) (suc p) (λ z. d (omega (arith, z)))) refl)
       (λ z. absurd (d (omega (arith, z))))))
 
@@ -97,25 +97,25 @@ module _ (has : ℕ → Going) (p t : ℕ) (es : List Event) (g : Going) (s : Sp
   ending = Spanned (ran p g.task g.run) g.from (ticks t)
 
   -- it covers the ticks since it went
-  ending-past : (u : ℕ) → u < t → covers p u ending ≡ leb g.from.0 u
-  ending-past u l = rw (eq-eqb (suc p) (suc p) refl, lt-ltb u t l) (by_cases (leb g.from.0 u) (λ e. rw e refl) (λ e. rw e refl))
+  ending_past : (u : ℕ) → u < t → covers p u ending ≡ leb g.from.0 u
+  ending_past u l = rw (eq-eqb (suc p) (suc p) refl, lt-ltb u t l) (by_cases (leb g.from.0 u) (λ e. rw e refl) (λ e. rw e refl))
 
-  ending-ahead : (u : ℕ) → t ≤ u → covers p u ending ≡ false
-  ending-ahead u l = and-false (eqb (suc p) (suc p) && leb g.from.0 u) (ltb u t) (le-ltb u t l)
+  ending_ahead : (u : ℕ) → t ≤ u → covers p u ending ≡ false
+  ending_ahead u l = and_false (eqb (suc p) (suc p) && leb g.from.0 u) (ltb u t) (le-ltb u t l)
 
-  pub close-none : g.task ≡ 0 → Closed has p t es
-  close-none z = record {
+  pub close_none : g.task ≡ 0 → Closed has p t es
+  close_none z = record {
     past = λ u l.
-        let n : bit (leb g.from.0 u && ltb 0 g.task) ≡ 0 = rw (z, and-false (leb g.from.0 u) (ltb 0 0) (le-ltb 0 0 (omega arith))) refl in
+        let n : bit (leb g.from.0 u && ltb 0 g.task) ≡ 0 = rw (z, and_false (leb g.from.0 u) (ltb 0 0) (le-ltb 0 0 (omega arith))) refl in
         omega (arith, n, s.past u l);
     named = s.named;
   }
 
-  close-one : (g.task ≡ 0 → ⊥) → Closed has p t (es ++ (ending ∷ []))
-  close-one z = record {
+  close_one : (g.task ≡ 0 → ⊥) → Closed has p t (es ++ (ending ∷ []))
+  close_one z = record {
     past = λ u l.
         let c : counted (covers p u) (es ++ (ending ∷ [])) ≡ counted (covers p u) es + bit (leb g.from.0 u) =
-        counted-one (covers p u) es ending ∙ rw (ending-past u l) refl in
+        counted_one (covers p u) es ending ∙ rw (ending_past u l) refl in
         let n : bit (leb g.from.0 u && ltb 0 g.task) ≡ bit (leb g.from.0 u) =
         rw (lt-ltb 0 g.task (omega (arith, z))) (by_cases (leb g.from.0 u) (λ e. rw e refl) (λ e. rw e refl)) in
         omega (arith, c, n, s.past u l);
@@ -123,21 +123,21 @@ module _ (has : ℕ → Going) (p t : ℕ) (es : List Event) (g : Going) (s : Sp
   }
 
   -- at the stop, by no run
-  pub close-span : Closed has p t (es ++ spanEnd p g 0 0 t)
-  close-span =
+  pub close_span : Closed has p t (es ++ span_end p g 0 0 t)
+  close_span =
       by_cases (eqb g.task 0)
       (λ z. by_cases (same g 0 0)
-      (λ e. rw (e, append-nil es) (close-none (eqb-true g.task 0 z)))
-      (λ e. rw (e, z, append-nil es) (close-none (eqb-true g.task 0 z))))
-      (λ z. rw z (close-one (eqb-false g.task 0 z)))
+      (λ e. rw (e, append-nil es) (close_none (eqb-true g.task 0 z)))
+      (λ e. rw (e, z, append-nil es) (close_none (eqb-true g.task 0 z))))
+      (λ z. rw z (close_one (eqb-false g.task 0 z)))
 
   -- another run, that core p has in tick t, goes from t on
   module _ (i n : ℕ) (fs : List Event) (c : Closed has p t (es ++ fs)) (none : (u : ℕ) → t ≤ u → counted (covers p u) (es ++ fs) ≡ 0) where
     abbrev next : Going
     next = record { task = i; run = n; from = ticks t }
 
-    from-now : has t ≡ next → SpanAt has p (suc t) (es ++ fs) next
-    from-now q = record {
+    from_now : has t ≡ next → SpanAt has p (suc t) (es ++ fs) next
+    from_now q = record {
       from = omega arith;
       past = λ u l. past u l (ℕ_discrete u t);
       ahead = λ u l. none u (omega (arith, l));
@@ -150,12 +150,12 @@ module _ (has : ℕ → Going) (p t : ℕ) (es : List Event) (g : Going) (s : Sp
         past u l (no e) = rw (lt-leb t u (omega (arith, l, e)), c.past u (omega (arith, l, e))) (omega arith)
 
   -- core p is looked at, at t
-  pub look-span : (i n : ℕ) → has t ≡ goingOf g i n t → SpanAt has p (suc t) (es ++ spanEnd p g i n t) (goingOf g i n t)
-  look-span i n q =
+  pub look_span : (i n : ℕ) → has t ≡ going_of g i n t → SpanAt has p (suc t) (es ++ span_end p g i n t) (going_of g i n t)
+  look_span i n q =
       by_cases (same g i n)
       (λ e. rw (e, append-nil es) (goes_on (rw e at q)))
       (λ e. by_cases (eqb g.task 0)
-      (λ z. rw (e, z) (from-now i n [] (rw (append-nil es) (close-none (eqb-true g.task 0 z))) (λ u l. rw (append-nil es) (s.ahead u l)) (rw e at q)))
+      (λ z. rw (e, z) (from_now i n [] (rw (append-nil es) (close_none (eqb-true g.task 0 z))) (λ u l. rw (append-nil es) (s.ahead u l)) (rw e at q)))
       (λ z. rw (e, z)
-      (from-now i n (ending ∷ []) (close-one (eqb-false g.task 0 z))
-      (λ u l. counted-one (covers p u) es ending ∙ rw (ending-ahead u l, s.ahead u l) refl) (rw e at q))))
+      (from_now i n (ending ∷ []) (close_one (eqb-false g.task 0 z))
+      (λ u l. counted_one (covers p u) es ending ∙ rw (ending_ahead u l, s.ahead u l) refl) (rw e at q))))

@@ -7,11 +7,11 @@ use Rattle.day_window.proofs.Windows.{settled}
 use Rattle.day_writing.proofs.put_arrival.Reads as PutArrival
 use Rattle.day_writing.proofs.put_spans.Reads as PutSpans
 
-pub put-arrival : SettledLent (λ κs e. e.0.now) PutArrival.Post
-put-arrival κs a x y e f p q = settled p.0 q.0
+pub put_arrival_lem : SettledLent (λ κs e. e.0.now) PutArrival.Post
+put_arrival_lem κs a x y e f p q = settled p.0 q.0
 
 -- and each number of who has the cores
-pub put-spans : SettledLent {B = List ℕ × List ℕ} (λ κs e. (e.0.now, e.1.1.1.0.now)) PutSpans.Post
-put-spans κs a x y e f p q =
+pub put_spans_lem : SettledLent {B = List ℕ × List ℕ} (λ κs e. (e.0.now, e.1.1.1.0.now)) PutSpans.Post
+put_spans_lem κs a x y e f p q =
     let s = settled p.0 q.0 in
     (s.0, ap₂ (λ (xs ys : List ℕ). (xs, ys)) s.1 (p.1.1 ∙ sym q.1.1))

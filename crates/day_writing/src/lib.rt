@@ -1,14 +1,14 @@
 // Writing what a rehearsal says of an arrival and of all cores, in a window of its text.
 ghost use Rattle.std.specs.Prelude.{◌+◌, ◌*◌, ◌≤◌, ◌<◌, ◌≡◌, cond, [], ◌∷◌, eqb, length};
-ghost use Rattle.units.specs.Limits.{coresLimit};
-ghost use Rattle.writing.specs.Inner.{placeLimit};
-ghost use Rattle.day_lines.specs.Lines.{eventsText};
+ghost use Rattle.units.specs.Limits.{cores_limit};
+ghost use Rattle.writing.specs.Inner.{place_limit};
+ghost use Rattle.day_lines.specs.Lines.{events_text};
 ghost use Rattle.day_window.specs.Window.{Windowed};
 ghost use Rattle.day_lines.specs.declared.Event.TheVariants.{Refused};
-ghost use Rattle.day_rules.specs.Day.{spanEnd};
-ghost use Rattle.day_rules.specs.Spans.{spansEnd};
-ghost use Rattle.goings.specs.Rows.{goingsIn};
-ghost use Rattle.instants.specs.Goings.{goingsOf, goneOn};
+ghost use Rattle.day_rules.specs.Day.{span_end};
+ghost use Rattle.day_rules.specs.Spans.{spans_end};
+ghost use Rattle.goings.specs.Rows.{goings_in};
+ghost use Rattle.instants.specs.Goings.{goings_of, gone_on};
 
 use day_lines::{Event, Ran};
 use day_window::put_within;
@@ -27,8 +27,8 @@ pub fn put_arrival(
     task: usize,
     time: Ticks,
 ) -> usize
-    requires { at + 180 ≤ placeLimit }
-    ensures windowed { Windowed out.old skip at (eventsText (cond (eqb no 0) [] (Refused no arrival task time ∷ []))) out.new result }
+    requires { at + 180 ≤ place_limit }
+    ensures windowed { Windowed out.old skip at (events_text (cond (eqb no 0) [] (Refused no arrival task time ∷ []))) out.new result }
     ensures upper_bound { result ≤ at + 180 }
 {
     if no == 0 {
@@ -47,8 +47,8 @@ fn put_span(
     new: Going,
     time: Ticks,
 ) -> usize
-    requires { (at + 180 ≤ placeLimit) × (core < coresLimit) }
-    ensures windowed { Windowed out.old skip at (eventsText (spanEnd core old new.task new.run time.0)) out.new result }
+    requires { (at + 180 ≤ place_limit) × (core < cores_limit) }
+    ensures windowed { Windowed out.old skip at (events_text (span_end core old new.task new.run time.0)) out.new result }
     ensures upper_bound { result ≤ at + 180 }
 {
     let same = (old.task == new.task) & (old.run == new.run);
@@ -75,11 +75,11 @@ pub fn put_spans(
     cores: usize,
     time: Ticks,
 ) -> usize
-    requires { (at + 180 * coresLimit ≤ placeLimit) × (cores ≤ coresLimit) × (length goings.old ≡ 3 * coresLimit) }
-    ensures fact { let gs = goingsIn goings.old in
-        Windowed out.old skip at (eventsText (spansEnd gs (goingsOf gs seen time.0 cores) time.0 cores)) out.new result }
+    requires { (at + 180 * cores_limit ≤ place_limit) × (cores ≤ cores_limit) × (length goings.old ≡ 3 * cores_limit) }
+    ensures fact { let gs = goings_in goings.old in
+        Windowed out.old skip at (events_text (spans_end gs (goings_of gs seen time.0 cores) time.0 cores)) out.new result }
     ensures upper_bound { result ≤ at + 180 * cores }
-    ensures goings_after { goings.new ≡ goneOn goings.old seen time.0 cores }
+    ensures goings_after { goings.new ≡ gone_on goings.old seen time.0 cores }
 {
     let mut end = at;
     let mut core: usize = 0;

@@ -1,11 +1,11 @@
 -- Document 01's table of proved examples: what is given, and the answer.
 use Rattle.std.specs.Prelude.{ℕ, ◌-◌, Bool, true, false, ◌&&◌, List, [], ◌∷◌, ◌++◌, map, eqb, ℤ, pos, negsuc, length, take}
 use Rattle.std.specs.Int.Signed.{le_z}
-use Rattle.units.specs.Limits.{coresLimit}
+use Rattle.units.specs.Limits.{cores_limit}
 use Rattle.lists.specs.Lists.{total, zeros}
-use Rattle.planning.specs.Plan.{plan_of, sharesTable}
-use Rattle.lateness.specs.Lateness.{latesOf}
-use Rattle.turn.specs.Turn.{fresh, turns as turnsFrom}
+use Rattle.planning.specs.Plan.{plan_of, shares_table}
+use Rattle.lateness.specs.Lateness.{lates_of}
+use Rattle.turn.specs.Turn.{fresh, turns as turns_from}
 
 -- a plan: cores, table, common period, shares and bounds; a refusal: its number and task; a list taken; a mover's turns
 pub data Example : Type 0 where
@@ -30,16 +30,16 @@ unfoldable pub holds : Example → Bool
 holds (plans m xs l rows lates) =
     eqb (plan_of m xs).refusal.no 0 && eqb (plan_of m xs).refusal.named 0
     && eqb (plan_of m xs).plan.common l
-    && same (same eqb) (map (take m) (take (length rows) (sharesTable (plan_of m xs).plan))) rows
-    && same sameℤ (take (length lates) (latesOf (plan_of m xs).plan)) lates
+    && same (same eqb) (map (take m) (take (length rows) (shares_table (plan_of m xs).plan))) rows
+    && same sameℤ (take (length lates) (lates_of (plan_of m xs).plan)) lates
 holds (takes m xs l) = eqb (plan_of m xs).refusal.no 0 && eqb (plan_of m xs).plan.common l
 holds (refuses m xs n i) = eqb (plan_of m xs).refusal.no n && eqb (plan_of m xs).refusal.named i
-holds (turns ss ks) = same eqb (turnsFrom (length ks) (total ss) (ss ++ zeros (coresLimit - length ss)) fresh) ks
+holds (turns ss ks) = same eqb (turns_from (length ks) (total ss) (ss ++ zeros (cores_limit - length ss)) fresh) ks
 
 -- all of them do
-abbrev pub allHold : List Example → Bool
-allHold [] = true
-allHold (x ∷ xs) = holds x && allHold xs
+abbrev pub all_hold : List Example → Bool
+all_hold [] = true
+all_hold (x ∷ xs) = holds x && all_hold xs
 
 -- the list of E1 and E2
 abbrev pub one : List ℕ
@@ -67,5 +67,5 @@ examples =
     ∷ []
 
 -- a slip that no line of the table shows: shares 2 and 2 are not turned in blocks, 1, 1, 2, 2
-abbrev pub notInBlocks : Example
-notInBlocks = turns (2 ∷ 2 ∷ []) (1 ∷ 2 ∷ 1 ∷ 2 ∷ [])
+abbrev pub not_in_blocks : Example
+not_in_blocks = turns (2 ∷ 2 ∷ []) (1 ∷ 2 ∷ 1 ∷ 2 ∷ [])

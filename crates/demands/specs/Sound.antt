@@ -3,15 +3,15 @@
 use Rattle.std.specs.Prelude.{ℕ, ◌+◌, ◌*◌, ◌-◌, ◌≤◌, ◌<◌, ◌≡◌, true, List, get_or}
 use Rattle.std.specs.Int.{◌∣◌}
 use Rattle.lists.specs.Lists.{total}
-use Rattle.lists.specs.Rows.{howMany, column}
-use Rattle.task_shares.specs.Movers.{fixedOn, movesOn, lower}
+use Rattle.lists.specs.Rows.{how_many, column}
+use Rattle.task_shares.specs.Movers.{fixed_on, moves_on, lower}
 use Rattle.planning.specs.declared.Line.{Line}
-use Rattle.planning.specs.Plan.{row_of, sharesTable}
+use Rattle.planning.specs.Plan.{row_of, shares_table}
 use Rattle.stored_runs.specs.declared.Run.{Run}
 use Rattle.task_state.specs.declared.State.{State}
 use Rattle.task_state.specs.State.{run_at}
 use Rattle.dispatch.specs.declared.Record.{Record}
-use Rattle.dispatch.specs.Record.{line_at, stateAt}
+use Rattle.dispatch.specs.Record.{line_at, state_at}
 
 -- the numbers of a task in use are in their ranges, under a common period L; whether it has had a release is 0 or 1
 pub record InRange (L : ℕ) (ln : Line) (st : State) : Type 0 where
@@ -51,7 +51,7 @@ module _ (r : Record) where
 
   -- the table of shares
   abbrev pub table : List (List ℕ)
-  table = sharesTable r.plan
+  table = shares_table r.plan
 
   -- of task i: cost C
   abbrev pub C : ℕ → ℕ
@@ -71,7 +71,7 @@ module _ (r : Record) where
 
   -- its state
   abbrev pub state : ℕ → State
-  state i = stateAt r i
+  state i = state_at r i
 
   -- the record is sound
   pub record Sound : Type 0 where
@@ -101,11 +101,11 @@ module _ (r : Record) where
     -- and only the M cores have any
     pub only : (i p : ℕ) → M ≤ p → get_or (row i) p 0 ≡ 0
     -- no core has more than two movers
-    pub movers : (p : ℕ) → howMany (movesOn p) table ≤ 2
+    pub movers : (p : ℕ) → how_many (moves_on p) table ≤ 2
     -- two have it as first core of exactly one
-    pub first : (p : ℕ) → howMany (movesOn p) table ≡ 2 → howMany (lower p) table ≡ 1
+    pub first : (p : ℕ) → how_many (moves_on p) table ≡ 2 → how_many (lower p) table ≡ 1
     -- on a core with a mover some fixed task weighs at least as much as each mover there
-    pub guarded : (i p : ℕ) → movesOn p (row i) ≡ true → (j : ℕ) × (fixedOn p (row j) ≡ true) × (w i ≤ w j)
+    pub guarded : (i p : ℕ) → moves_on p (row i) ≡ true → (j : ℕ) × (fixed_on p (row j) ≡ true) × (w i ≤ w j)
     -- each task's turn counts sum to its place in the turn cycle
     pub counts : (i : ℕ) → i < N → total (state i).counts ≡ (state i).place
     -- that place is below w

@@ -3,78 +3,78 @@ use Prim.Native.Nat.{ℕ, ◌+◌, ◌-◌, ◌^◌, ◌≤◌, ◌<◌}
 use mathlib.Core.Path.{◌≡◌}
 use native.Mathlib.Omega.{arith}
 use borrow.Author.Tests.{eq-eqb}
-use Rattle.units.specs.Limits.{coresLimit, tasksLimit, periodLimit, clockLimit}
-use Rattle.soundness.proofs.Facts.{tasks-few, cores-few, weight-small, shares_sum}
-use Rattle.task_state.specs.Tests.{releaseTests, finishTests}
-use Rattle.task_state.specs.Key.{deadlineOf}
+use Rattle.units.specs.Limits.{cores_limit, tasks_limit, period_limit, clock_limit}
+use Rattle.soundness.proofs.Facts.{tasks_few, cores_few, weight_small, shares_sum}
+use Rattle.task_state.specs.Tests.{release_tests, finish_tests}
+use Rattle.task_state.specs.Key.{deadline_of}
 use Rattle.task_state.specs.Inner.{Releasable}
 use Rattle.state_rules.proofs.Facts.{facts, releasable}
-use Rattle.task_state.proofs.Passed.{has-run}
+use Rattle.task_state.proofs.Passed.{has_run}
 use Rattle.dispatch.specs.declared.Record.{Record}
-use Rattle.dispatch.specs.Record.{line_at, stateAt}
-use Rattle.dispatch.specs.Look.{bestOf, atTime}
-use Rattle.dispatch.specs.Refusals.{taskTests, lookRefusal, releaseRefusal, finishRefusal}
-use Rattle.dispatch.proofs.SoundFacts.{sound-facts, task-below, state-sound, due-small}
-use Rattle.dispatch.proofs.Looking.{best-of-all}
-use Rattle.dispatch.proofs.Passed.{task-passed, look-passed}
+use Rattle.dispatch.specs.Record.{line_at, state_at}
+use Rattle.dispatch.specs.Look.{best_of, at_time}
+use Rattle.dispatch.specs.Refusals.{task_tests, look_refusal, release_refusal, finish_refusal}
+use Rattle.dispatch.proofs.SoundFacts.{sound_facts, task_below, state_sound_lem, due_small}
+use Rattle.dispatch.proofs.Looking.{best_of_all}
+use Rattle.dispatch.proofs.Passed.{task_passed, look_passed}
 
 -- task i, from 1, at time t: the numbers are in their ranges, the call's own tests decide, and a call that passes them can be taken
 pub record TaskCall (r : Record) (i t : ℕ) : Type 0 where
   pub from : 0 < i
-  pub below : i - 1 < tasksLimit
-  pub time-in : t ≤ clockLimit
-  pub last : (stateAt r (i - 1)).last.0 ≤ clockLimit
-  pub time-fits : t < 2 ^ 63
-  pub due-fits : deadlineOf (stateAt r (i - 1)) < 2 ^ 63
-  pub release-number : releaseRefusal r i t ≡ releaseTests (line_at r (i - 1)) (stateAt r (i - 1)) t
-  pub finish-number : finishRefusal r i t ≡ finishTests (line_at r (i - 1)) (stateAt r (i - 1)) t
-  pub can-release : releaseTests (line_at r (i - 1)) (stateAt r (i - 1)) t ≡ 0 → Releasable (line_at r (i - 1)) (stateAt r (i - 1)) t
-  pub can-finish : finishTests (line_at r (i - 1)) (stateAt r (i - 1)) t ≡ 0 → 0 < (stateAt r (i - 1)).live
+  pub below : i - 1 < tasks_limit
+  pub time_in : t ≤ clock_limit
+  pub last : (state_at r (i - 1)).last.0 ≤ clock_limit
+  pub time_fits : t < 2 ^ 63
+  pub due_fits : deadline_of (state_at r (i - 1)) < 2 ^ 63
+  pub release_number : release_refusal r i t ≡ release_tests (line_at r (i - 1)) (state_at r (i - 1)) t
+  pub finish_number : finish_refusal r i t ≡ finish_tests (line_at r (i - 1)) (state_at r (i - 1)) t
+  pub can_release : release_tests (line_at r (i - 1)) (state_at r (i - 1)) t ≡ 0 → Releasable (line_at r (i - 1)) (state_at r (i - 1)) t
+  pub can_finish : finish_tests (line_at r (i - 1)) (state_at r (i - 1)) t ≡ 0 → 0 < (state_at r (i - 1)).live
 
 -- so it is where none of 15, 7, 12 and 8 applies
-pub task-call : {r : Record} {i t : ℕ} → taskTests r i t ≡ 0 → TaskCall r i t
-unfolding releaseRefusal finishRefusal
-task-call {r} {i} {t} e =
-    let p = task-passed r i t e in
-    let k = sound-facts r p.sound in
+pub task_call : {r : Record} {i t : ℕ} → task_tests r i t ≡ 0 → TaskCall r i t
+unfolding release_refusal finish_refusal
+task_call {r} {i} {t} e =
+    let p = task_passed r i t e in
+    let k = sound_facts r p.sound in
     let ln = line_at r (i - 1) in
-    let st = stateAt r (i - 1) in
+    let st = state_at r (i - 1) in
     let h = p.here in
-    let f = facts ln st (state-sound r k (i - 1) h) in
-    let weight = weight-small r.plan k.plan (i - 1) h in
+    let f = facts ln st (state_sound_lem r k (i - 1) h) in
+    let weight = weight_small r.plan k.plan (i - 1) h in
     let shares = shares_sum r.plan k.plan (i - 1) h in
     record {
       from = p.from;
-      below = task-below r k (i - 1) h;
-      time-in = p.limit;
+      below = task_below r k (i - 1) h;
+      time_in = p.limit;
       last = f.last;
-      time-fits = omega (arith, p.limit);
-      due-fits = omega (arith, due-small r k (i - 1) h);
-      release-number = rw (eq-eqb (taskTests r i t) 0 e);
-      finish-number = rw (eq-eqb (taskTests r i t) 0 e);
-      can-release = λ z. releasable ln st f t z weight shares;
-      can-finish = λ z. has-run ln st t z;
+      time_fits = omega (arith, p.limit);
+      due_fits = omega (arith, due_small r k (i - 1) h);
+      release_number = rw (eq-eqb (task_tests r i t) 0 e);
+      finish_number = rw (eq-eqb (task_tests r i t) 0 e);
+      can_release = λ z. releasable ln st f t z weight shares;
+      can_finish = λ z. has_run ln st t z;
     }
 
 -- core k, from 1, at time t: both are in their ranges, the tasks' deadlines are in theirs, and the best of the tasks is the best of all
 pub record CoreCall (r : Record) (k t : ℕ) : Type 0 where
   pub from : 0 < k
-  pub few : k ≤ coresLimit
-  pub tasks : r.plan.count ≤ tasksLimit
-  pub time : t ≤ clockLimit
-  pub due : (i : ℕ) → i < r.plan.count → deadlineOf (stateAt r i) ≤ clockLimit + periodLimit
-  pub all : bestOf (atTime r t) k tasksLimit ≡ bestOf (atTime r t) k r.plan.count
+  pub few : k ≤ cores_limit
+  pub tasks : r.plan.count ≤ tasks_limit
+  pub time : t ≤ clock_limit
+  pub due : (i : ℕ) → i < r.plan.count → deadline_of (state_at r i) ≤ clock_limit + period_limit
+  pub all : best_of (at_time r t) k tasks_limit ≡ best_of (at_time r t) k r.plan.count
 
 -- so it is where none of 15, 13, 12 and 8 applies
-pub core-call : {r : Record} {k : ℕ} (t : ℕ) → lookRefusal r k t ≡ 0 → CoreCall r k t
-core-call {r} {k} t e =
-    let p = look-passed r k t e in
-    let s = sound-facts r p.sound in
+pub core_call : {r : Record} {k : ℕ} (t : ℕ) → look_refusal r k t ≡ 0 → CoreCall r k t
+core_call {r} {k} t e =
+    let p = look_passed r k t e in
+    let s = sound_facts r p.sound in
     record {
       from = p.from;
-      few = omega (arith, p.to, cores-few r.plan s.plan);
-      tasks = tasks-few r.plan s.plan;
+      few = omega (arith, p.to, cores_few r.plan s.plan);
+      tasks = tasks_few r.plan s.plan;
       time = p.limit;
-      due = due-small r s;
-      all = best-of-all (atTime r t) (record { clock = p.limit; plan = s.plan; states = s.states }) k;
+      due = due_small r s;
+      all = best_of_all (at_time r t) (record { clock = p.limit; plan = s.plan; states = s.states }) k;
     }

@@ -7,139 +7,139 @@ use native.Mathlib.Nat.{add-zero, le_refl, div-add-mod'}
 use native.Mathlib.Omega.{arith}
 use lib.ListN.{length, get_or}
 use borrow.Author.Tests.{eqb-true}
-use Rattle.units.specs.Limits.{coresLimit}
+use Rattle.units.specs.Limits.{cores_limit}
 use Rattle.lists.specs.Lists.{total, parts}
-use Rattle.arith.specs.Ceiling.{ceilDiv}
-use Rattle.task_shares.specs.Movers.{fixed, firstCore}
+use Rattle.arith.specs.Ceiling.{ceil_div}
+use Rattle.task_shares.specs.Movers.{fixed, first_core}
 use Rattle.planning.specs.declared.Plan.{Plan}
-use Rattle.planning.specs.Tasks.{taskLine, taskWeight, taskShares, taskShare}
-use Rattle.turn.specs.Runs.{coreOfRun}
+use Rattle.planning.specs.Tasks.{task_line, task_weight, task_shares, task_share}
+use Rattle.turn.specs.Runs.{core_of_run}
 use Rattle.turn.proofs.Sent.{sent}
 use Rattle.turn.specs.Choice.{RunGoesTo}
-use Rattle.turn.proofs.Cycle.{place_after, counts-after}
-use Rattle.turn.proofs.Fair.{rounded, in_a_row, whole, fixed as all-to-one}
-use Rattle.turn.proofs.SincePlan.{since-plan}
+use Rattle.turn.proofs.Cycle.{place_after, counts_after}
+use Rattle.turn.proofs.Fair.{rounded, in_a_row, whole, fixed as all_to_one}
+use Rattle.turn.proofs.SincePlan.{since_plan}
 use Rattle.task_state.specs.declared.State.{State}
-use Rattle.dispatch.specs.Record.{recordOf, stateAt}
+use Rattle.dispatch.specs.Record.{record_of, state_at}
 use Rattle.dispatch.specs.Shape.{Good}
 use Rattle.dispatch.specs.declared.call.Call.{Call}
-use Rattle.dispatch.specs.Calls.{after, coresOf, sentTo, inARow}
+use Rattle.dispatch.specs.Calls.{after, cores_of, sent_to, in_a_row}
 use Rattle.soundness.proofs.Lined.{Lined}
-use Rattle.dispatch.proofs.Records.{task-in, task-lined, task-wide}
+use Rattle.dispatch.proofs.Records.{task_in, task_lined, task_wide}
 use Rattle.dispatch.proofs.Fresh.{fresh_at}
 use Rattle.dispatch.proofs.Turns.{At, at_first, Here}
-use Rattle.dispatch.proofs.Sequence.{here-after, cores-after}
-use Rattle.dispatch.proofs.Going.{on-cores}
-use Rattle.dispatch.proofs.Counted.{sent-row, sent-are}
+use Rattle.dispatch.proofs.Sequence.{here_after, cores_after}
+use Rattle.dispatch.proofs.Going.{on_cores}
+use Rattle.dispatch.proofs.Counted.{sent_row, sent_are}
 
-module _ (pl : Plan) (g : Good (recordOf pl)) (i : ℕ) (from : 0 < i) (to : i ≤ pl.count) where
+module _ (pl : Plan) (g : Good (record_of pl)) (i : ℕ) (from : 0 < i) (to : i ≤ pl.count) where
   -- the task's weight, its shares, and its share on core p
   abbrev w : ℕ
-  w = taskWeight pl i
+  w = task_weight pl i
 
   abbrev ss : List ℕ
-  ss = taskShares pl i
+  ss = task_shares pl i
 
   abbrev s : ℕ → ℕ
-  s p = taskShare pl i p
+  s p = task_share pl i p
 
   -- at first the task has had no run
-  here-first : Here i (taskLine pl i) (recordOf pl) 0
-  unfolding recordOf
-  here-first = record {
+  here_first : Here i (task_line pl i) (record_of pl) 0
+  unfolding record_of
+  here_first = record {
     good = g;
     from = from;
     to = to;
     line = refl;
-    turns = subst (λ st. At (taskLine pl i) st 0) (sym (fresh_at pl (i - 1) (task-in (recordOf pl) g (i - 1) (omega arith)))) (at_first (taskLine pl i));
+    turns = subst (λ st. At (task_line pl i) st 0) (sym (fresh_at pl (i - 1) (task_in (record_of pl) g (i - 1) (omega arith)))) (at_first (task_line pl i));
   }
 
   -- what is known of its line
-  lined : Lined (taskLine pl i)
-  unfolding recordOf
-  lined = task-lined (recordOf pl) g (i - 1) (omega arith)
+  lined : Lined (task_line pl i)
+  unfolding record_of
+  lined = task_lined (record_of pl) g (i - 1) (omega arith)
 
   -- it has sixteen shares
-  wide : length ss ≡ coresLimit
-  unfolding recordOf
-  wide = task-wide (recordOf pl) g (i - 1) (omega arith)
+  wide : length ss ≡ cores_limit
+  unfolding record_of
+  wide = task_wide (record_of pl) g (i - 1) (omega arith)
 
   module _ (cs : List Call) where
     -- the cores of its runs
     abbrev ks : List ℕ
-    ks = coresOf i (recordOf pl) cs
+    ks = cores_of i (record_of pl) cs
 
     -- what it is at after the calls
     abbrev st : State
-    st = stateAt (after (recordOf pl) cs) (i - 1)
+    st = state_at (after (record_of pl) cs) (i - 1)
 
     -- the core of its run number c is a function of its shares and c
-    pub core-of-run : (c : ℕ) → c < length ks → get_or ks c 0 ≡ coreOfRun w ss c
-    core-of-run c h = rw add-zero at (cores-after i (taskLine pl i) cs (recordOf pl) 0 here-first c h)
+    pub core_of_run_lem : (c : ℕ) → c < length ks → get_or ks c 0 ≡ core_of_run w ss c
+    core_of_run_lem c h = rw add-zero at (cores_after i (task_line pl i) cs (record_of pl) 0 here_first c h)
 
     -- that core is the one that document 01 names, by all the runs since the plan
-    pub goes_to : (c : ℕ) → c < length ks → RunGoesTo w c s (λ p. sentTo p ks c) pl.cores (get_or ks c 0)
-    unfolding recordOf
+    pub goes_to : (c : ℕ) → c < length ks → RunGoesTo w c s (λ p. sent_to p ks c) pl.cores (get_or ks c 0)
+    unfolding record_of
     goes_to c h =
-        let n : ℕ → ℕ = λ p. sentTo p ks c in
+        let n : ℕ → ℕ = λ p. sent_to p ks c in
         let p = get_or ks c 0 in
-        let all : RunGoesTo w c s n coresLimit p =
-        rw (core-of-run c h)
-        (since-plan w ss lined.some lined.shares wide c s n
+        let all : RunGoesTo w c s n cores_limit p =
+        rw (core_of_run_lem c h)
+        (since_plan w ss lined.some lined.shares wide c s n
         (λ j. let e : suc j - 1 ≡ j = omega arith in rw e)
-        (λ j. sent-are (suc j) w ss ks core-of-run c (omega arith))) in
-        on-cores (recordOf pl) g i c n p all
+        (λ j. sent_are (suc j) w ss ks core_of_run_lem c (omega arith))) in
+        on_cores (record_of pl) g i c n p all
 
     -- every run of a fixed task goes to its core
-    pub of-a-fixed : fixed ss ≡ true → (c : ℕ) → c < length ks → get_or ks c 0 ≡ firstCore ss + 1
-    of-a-fixed e c h = core-of-run c h ∙ all-to-one w ss lined.some lined.shares wide (eqb-true (parts ss) 1 e) c
+    pub of_a_fixed : fixed ss ≡ true → (c : ℕ) → c < length ks → get_or ks c 0 ≡ first_core ss + 1
+    of_a_fixed e c h = core_of_run_lem c h ∙ all_to_one w ss lined.some lined.shares wide (eqb-true (parts ss) 1 e) c
 
     -- after the calls it has had as many runs as there are accepted releases
-    here-last : Here i (taskLine pl i) (after (recordOf pl) cs) (length ks)
-    here-last = rw add-zero at (here-after i (taskLine pl i) cs (recordOf pl) 0 here-first)
+    here_last : Here i (task_line pl i) (after (record_of pl) cs) (length ks)
+    here_last = rw add-zero at (here_after i (task_line pl i) cs (record_of pl) 0 here_first)
 
     -- its place in the record is that in the cycle
     pub place_is : st.place ≡ length ks % w
-    place_is = here-last.turns.place ∙ place_after w ss lined.some lined.shares wide (length ks)
+    place_is = here_last.turns.place ∙ place_after w ss lined.some lined.shares wide (length ks)
 
     module _ (p : ℕ) (one : 0 < p) where
-      sent_is : (c : ℕ) → c ≤ length ks → sentTo p ks c ≡ sent w ss (suc (p - 1)) c
-      sent_is c h = let e : suc (p - 1) ≡ p = omega arith in rw e (sent-are p w ss ks core-of-run c h)
+      sent_is : (c : ℕ) → c ≤ length ks → sent_to p ks c ≡ sent w ss (suc (p - 1)) c
+      sent_is c h = let e : suc (p - 1) ≡ p = omega arith in rw e (sent_are p w ss ks core_of_run_lem c h)
 
       -- of its first c runs core p has its part, rounded down or up
-      pub of-the-first : (c : ℕ) → c ≤ length ks → (s p * c / w ≤ sentTo p ks c) × (sentTo p ks c ≤ ceilDiv (s p * c) w)
-      of-the-first c h = rw (sent_is c h) (rounded w ss lined.some lined.shares wide c (p - 1))
+      pub of_the_first : (c : ℕ) → c ≤ length ks → (s p * c / w ≤ sent_to p ks c) × (sent_to p ks c ≤ ceil_div (s p * c) w)
+      of_the_first c h = rw (sent_is c h) (rounded w ss lined.some lined.shares wide c (p - 1))
 
       -- of w runs exactly its share, and so of any number of cycles
-      pub of-whole-cycles : (q : ℕ) → q * w ≤ length ks → sentTo p ks (q * w) ≡ q * s p
-      of-whole-cycles q h = sent_is (q * w) h ∙ whole w ss lined.some lined.shares wide q (p - 1)
+      pub of_whole_cycles : (q : ℕ) → q * w ≤ length ks → sent_to p ks (q * w) ≡ q * s p
+      of_whole_cycles q h = sent_is (q * w) h ∙ whole w ss lined.some lined.shares wide q (p - 1)
 
       -- its count in the record is that of the runs since the last whole cycle
-      pub count-is : get_or st.counts (p - 1) 0 ≡ inARow p ks (length ks / w * w) (length ks % w)
-      count-is =
+      pub count_is : get_or st.counts (p - 1) 0 ≡ in_a_row p ks (length ks / w * w) (length ks % w)
+      count_is =
           let q = length ks / w in
           let e : q * w + length ks % w ≡ length ks = div-add-mod' (length ks) w in
-          let a = counts-after w ss lined.some lined.shares wide (length ks) (p - 1) in
-          let b = ap (sentTo p ks) (sym e) ∙ sent-row p ks (q * w) (length ks % w) in
-          rw here-last.turns.counts (omega (arith, a, b, sent_is (length ks) (le_refl (length ks)), of-whole-cycles q (omega (arith, e))))
+          let a = counts_after w ss lined.some lined.shares wide (length ks) (p - 1) in
+          let b = ap (sent_to p ks) (sym e) ∙ sent_row p ks (q * w) (length ks % w) in
+          rw here_last.turns.counts (omega (arith, a, b, sent_is (length ks) (le_refl (length ks)), of_whole_cycles q (omega (arith, e))))
 
       -- of c in a row after the first a, x of them on core p, it has less than two more or less than its part
-      of-any : (a c x : ℕ) → a + c ≤ length ks → sentTo p ks (a + c) ≡ sentTo p ks a + x → (x * w < s p * c + 2 * w) × (s p * c < x * w + 2 * w)
-      of-any a c x h e =
+      of_any : (a c x : ℕ) → a + c ≤ length ks → sent_to p ks (a + c) ≡ sent_to p ks a + x → (x * w < s p * c + 2 * w) × (s p * c < x * w + 2 * w)
+      of_any a c x h e =
           in_a_row w ss lined.some lined.shares wide a c (p - 1) x
           (sym (sent_is (a + c) h) ∙ e ∙ ap (λ (n : ℕ). n + x) (sent_is a (omega arith)))
 
       -- the same, counted
-      pub of-any-in-a-row : (a c : ℕ) → a + c ≤ length ks → (inARow p ks a c * w < s p * c + 2 * w) × (s p * c < inARow p ks a c * w + 2 * w)
-      of-any-in-a-row a c h = of-any a c (inARow p ks a c) h (sent-row p ks a c)
+      pub of_any_in_a_row : (a c : ℕ) → a + c ≤ length ks → (in_a_row p ks a c * w < s p * c + 2 * w) × (s p * c < in_a_row p ks a c * w + 2 * w)
+      of_any_in_a_row a c h = of_any a c (in_a_row p ks a c) h (sent_row p ks a c)
 
 -- the core of a task's run depends on its shares and the run's number alone: not on the other tasks, the plan or the calls
-pub shares-alone : (pl pl' : Plan) → Good (recordOf pl) → Good (recordOf pl') → (i i' : ℕ) → 0 < i → i ≤ pl.count → 0 < i' → i' ≤ pl'.count
-    → taskShares pl i ≡ taskShares pl' i' → (cs cs' : List Call) (c : ℕ)
-    → c < length (coresOf i (recordOf pl) cs) → c < length (coresOf i' (recordOf pl') cs')
-    → get_or (coresOf i (recordOf pl) cs) c 0 ≡ get_or (coresOf i' (recordOf pl') cs') c 0
-shares-alone pl pl' g g' i i' a b a' b' e cs cs' c h h' =
-    let w : taskWeight pl i ≡ taskWeight pl' i' = sym (lined pl g i a b).shares ∙ ap total e ∙ (lined pl' g' i' a' b').shares in
-    core-of-run pl g i a b cs c h
-    ∙ ap₂ (λ (w : ℕ) (ss : List ℕ). coreOfRun w ss c) w e
-    ∙ sym (core-of-run pl' g' i' a' b' cs' c h')
+pub shares_alone : (pl pl' : Plan) → Good (record_of pl) → Good (record_of pl') → (i i' : ℕ) → 0 < i → i ≤ pl.count → 0 < i' → i' ≤ pl'.count
+    → task_shares pl i ≡ task_shares pl' i' → (cs cs' : List Call) (c : ℕ)
+    → c < length (cores_of i (record_of pl) cs) → c < length (cores_of i' (record_of pl') cs')
+    → get_or (cores_of i (record_of pl) cs) c 0 ≡ get_or (cores_of i' (record_of pl') cs') c 0
+shares_alone pl pl' g g' i i' a b a' b' e cs cs' c h h' =
+    let w : task_weight pl i ≡ task_weight pl' i' = sym (lined pl g i a b).shares ∙ ap total e ∙ (lined pl' g' i' a' b').shares in
+    core_of_run_lem pl g i a b cs c h
+    ∙ ap₂ (λ (w : ℕ) (ss : List ℕ). core_of_run w ss c) w e
+    ∙ sym (core_of_run_lem pl' g' i' a' b' cs' c h')

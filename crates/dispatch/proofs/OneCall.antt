@@ -16,51 +16,51 @@ use Rattle.dispatch.specs.declared.call.Answered.{Answered}
 use Rattle.dispatch.specs.declared.release.Released.{Released}
 use Rattle.dispatch.specs.declared.finish.Finished.{Finished}
 use Rattle.dispatch.specs.declared.look.Looked.{Looked}
-use Rattle.dispatch.specs.Refusals.{releaseRefusal, finishRefusal, lookRefusal}
-use Rattle.dispatch.specs.Release.{releaseOf}
-use Rattle.dispatch.specs.Finish.{finishOf}
+use Rattle.dispatch.specs.Refusals.{release_refusal, finish_refusal, look_refusal}
+use Rattle.dispatch.specs.Release.{release_of}
+use Rattle.dispatch.specs.Finish.{finish_of}
 use Rattle.dispatch.specs.Look.{look_of}
-use Rattle.dispatch.specs.Calls.{orRefused, answeredOf, refusalIn, callRefusal}
-use Rattle.dispatch.proofs.Answers.{release-answer, finish-answer, look-answer}
+use Rattle.dispatch.specs.Calls.{or_refused, answered_of, refusal_in, call_refusal}
+use Rattle.dispatch.proofs.Answers.{release_answer, finish_answer, look_answer}
 
 module _ (n : ℕ) (taken : Answer) where
   -- a call that is taken
-  pub is-taken : n ≡ 0 → taken ≡ orRefused n taken
-  is-taken e = rw e refl
+  pub is_taken : n ≡ 0 → taken ≡ or_refused n taken
+  is_taken e = rw e refl
 
   -- one that is refused
-  pub is-refused : (n ≡ 0 → ⊥) → Refused (refusal n 0) ≡ orRefused n taken
-  is-refused e = rw (ne_eqb n 0 e) refl
+  pub is_refused : (n ≡ 0 → ⊥) → Refused (refusal n 0) ≡ or_refused n taken
+  is_refused e = rw (ne_eqb n 0 e) refl
 
   -- the refusal is the number that was given
-  given : refusalIn taken ≡ 0 → refusalIn (orRefused n taken) ≡ n
+  given : refusal_in taken ≡ 0 → refusal_in (or_refused n taken) ≡ n
   given z = by_cases (eqb n 0) (λ e. rw e (z ∙ sym (eqb-true n 0 e))) (λ e. rw e refl)
 
 module _ (r : Record) {c : Call} {i : ℕ} {t : Ticks} {x : Answer} where
   -- a release
-  pub is-release : {a : Released} → c ≡ Release i t → a ≡ releaseOf r i t.0 → x ≡ orRefused a.refusal (released a.core a.deadline)
-      → ◌≡◌ {A = Answered} (record { answer = x; next = a.next }) (answeredOf r c)
-  is-release k e s = rw (s, e, k) refl
+  pub is_release : {a : Released} → c ≡ Release i t → a ≡ release_of r i t.0 → x ≡ or_refused a.refusal (released a.core a.deadline)
+      → ◌≡◌ {A = Answered} (record { answer = x; next = a.next }) (answered_of r c)
+  is_release k e s = rw (s, e, k) refl
 
   -- a finish; its lateness is handed on as the bits of a signed number
-  pub is-finish : {a : Finished} {late : ℤ} → c ≡ Finish i t → a ≡ finishOf r i t.0 → late ≡ a.late → x ≡ orRefused a.refusal (finished late)
-      → ◌≡◌ {A = Answered} (record { answer = x; next = a.next }) (answeredOf r c)
-  is-finish k e l s = rw (s, l, e, k) refl
+  pub is_finish : {a : Finished} {late : ℤ} → c ≡ Finish i t → a ≡ finish_of r i t.0 → late ≡ a.late → x ≡ or_refused a.refusal (finished late)
+      → ◌≡◌ {A = Answered} (record { answer = x; next = a.next }) (answered_of r c)
+  is_finish k e l s = rw (s, l, e, k) refl
 
   -- a look
-  pub is-look : {a : Looked} → c ≡ Look i t → a ≡ look_of r i t.0 → x ≡ orRefused a.refusal (looked a.choice)
-      → ◌≡◌ {A = Answered} (record { answer = x; next = a.next }) (answeredOf r c)
-  is-look k e s = rw (s, e, k) refl
+  pub is_look : {a : Looked} → c ≡ Look i t → a ≡ look_of r i t.0 → x ≡ or_refused a.refusal (looked a.choice)
+      → ◌≡◌ {A = Answered} (record { answer = x; next = a.next }) (answered_of r c)
+  is_look k e s = rw (s, e, k) refl
 
 module _ (r : Record) (i : ℕ) (t : Ticks) where
   -- a release is refused by the first number that applies to it
-  pub release-no : callRefusal r (Release i t) ≡ releaseRefusal r i t.0
-  release-no = given (releaseOf r i t.0).refusal _ refl ∙ release-answer r i t.0
+  pub release_no_lem : call_refusal r (Release i t) ≡ release_refusal r i t.0
+  release_no_lem = given (release_of r i t.0).refusal _ refl ∙ release_answer r i t.0
 
   -- a finish
-  pub finish-no : callRefusal r (Finish i t) ≡ finishRefusal r i t.0
-  finish-no = given (finishOf r i t.0).refusal _ refl ∙ finish-answer r i t.0
+  pub finish_no_lem : call_refusal r (Finish i t) ≡ finish_refusal r i t.0
+  finish_no_lem = given (finish_of r i t.0).refusal _ refl ∙ finish_answer r i t.0
 
   -- a look
-  pub look-no : callRefusal r (Look i t) ≡ lookRefusal r i t.0
-  look-no = given (look_of r i t.0).refusal _ refl ∙ look-answer r i t.0
+  pub look_no : call_refusal r (Look i t) ≡ look_refusal r i t.0
+  look_no = given (look_of r i t.0).refusal _ refl ∙ look_answer r i t.0

@@ -11,16 +11,16 @@ use lib.Dec.{ltb, eqb, eqb-suc-zero}
 use Rattle.task_state.specs.Key.{waits, key_of}
 use Rattle.dispatch.specs.declared.Record.{Record}
 use Rattle.core_choice.specs.declared.Best.{Best}
-use Rattle.dispatch.specs.Record.{line_at, stateAt}
-use Rattle.dispatch.specs.Look.{bestOf}
+use Rattle.dispatch.specs.Record.{line_at, state_at}
+use Rattle.dispatch.specs.Look.{best_of}
 
 -- task i's oldest unfinished run is on core k and released
 abbrev pub WaitsAt : Record → ℕ → ℕ → Type 0
-WaitsAt r k i = waits (line_at r i) (stateAt r i) k r.clock.0 ≡ true
+WaitsAt r k i = waits (line_at r i) (state_at r i) k r.clock.0 ≡ true
 
 -- its key there
 abbrev pub key_at : Record → ℕ → ℕ → ℕ
-key_at r k i = key_of (line_at r i) (stateAt r i) k
+key_at r k i = key_of (line_at r i) (state_at r i) k
 
 -- of the first n tasks, task j has the least key of those that wait on core k, and the lowest number at a tie
 pub record Least (r : Record) (k n j : ℕ) : Type 0 where
@@ -31,7 +31,7 @@ pub record Least (r : Record) (k n j : ℕ) : Type 0 where
 
 -- after n tasks, by the task that was found, from 1, and its key
 abbrev pub Found : Record → ℕ → ℕ → ℕ → ℕ → Type 0
-Found r k n zero d = (i : ℕ) → i < n → waits (line_at r i) (stateAt r i) k r.clock.0 ≡ false
+Found r k n zero d = (i : ℕ) → i < n → waits (line_at r i) (state_at r i) k r.clock.0 ≡ false
 Found r k n (suc j) d = (d ≡ key_at r k j) × Least r k n j
 
 module _ (r : Record) (k : ℕ) where
@@ -54,21 +54,21 @@ module _ (r : Record) (k : ℕ) where
   }
 
   -- and so by the two tests of the definition
-  found-one : (n task d : ℕ) (w l : Bool) → waits (line_at r n) (stateAt r n) k r.clock.0 ≡ w → ltb (key_at r k n) d ≡ l → Found r k n task d
+  found_one : (n task d : ℕ) (w l : Bool) → waits (line_at r n) (state_at r n) k r.clock.0 ≡ w → ltb (key_at r k n) d ≡ l → Found r k n task d
       → let b : Best = cond (w && (eqb task 0 || l)) (record { task = suc n; key = key_at r k n }) (record { task = task; key = d }) in
       Found r k (n + 1) b.task b.key
-  found-one n zero d false l p q f = below_more _ n f p
-  found-one n (suc j) d false l p q f = (f.0, kept n j f.1 (λ w. absurd (false≢true (cc))))
-  found-one n zero d true l p q f = (refl, taken n p (λ i m w. absurd (false≢true (cc (f i m)))))
-  found-one n (suc j) d true true p q f =
+  found_one n zero d false l p q f = below_more _ n f p
+  found_one n (suc j) d false l p q f = (f.0, kept n j f.1 (λ w. absurd (false≢true (cc))))
+  found_one n zero d true l p q f = (refl, taken n p (λ i m w. absurd (false≢true (cc (f i m)))))
+  found_one n (suc j) d true true p q f =
       rw (eqb-suc-zero j) (refl, taken n p (λ i m w. omega (arith, ltb-true (key_at r k n) d q, f.0, f.1.least i m w)))
-  found-one n (suc j) d true false p q f =
+  found_one n (suc j) d true false p q f =
       rw (eqb-suc-zero j) (f.0, kept n j f.1 (λ w. omega (arith, ltb-false (key_at r k n) d q, f.0)))
 
   -- after any number
-  pub found : (n : ℕ) → Found r k n (bestOf r k n).task (bestOf r k n).key
-  unfolding bestOf
+  pub found : (n : ℕ) → Found r k n (best_of r k n).task (best_of r k n).key
+  unfolding best_of
   found zero = λ i l. absurd (omega arith)
   found (suc n) =
-      rw (add-one n) at (found-one n (bestOf r k n).task (bestOf r k n).key (waits (line_at r n) (stateAt r n) k r.clock.0)
-      (ltb (key_at r k n) (bestOf r k n).key) refl refl (found n))
+      rw (add-one n) at (found_one n (best_of r k n).task (best_of r k n).key (waits (line_at r n) (state_at r n) k r.clock.0)
+      (ltb (key_at r k n) (best_of r k n).key) refl refl (found n))

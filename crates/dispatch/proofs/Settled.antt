@@ -30,14 +30,14 @@ finish κs a x y e f p q = p ∙ sym q
 pub look : Settled Look.Post
 look κs a x y e f p q = p ∙ sym q
 
-pub release-or : Settled ReleaseOr.Post
-release-or κs a x y e f p q = p ∙ sym q
+pub release_or_lem : Settled ReleaseOr.Post
+release_or_lem κs a x y e f p q = p ∙ sym q
 
-pub finish-or : Settled FinishOr.Post
-finish-or κs a x y e f p q = p ∙ sym q
+pub finish_or_lem : Settled FinishOr.Post
+finish_or_lem κs a x y e f p q = p ∙ sym q
 
-pub look-or : Settled LookOr.Post
-look-or κs a x y e f p q = p ∙ sym q
+pub look_or_lem : Settled LookOr.Post
+look_or_lem κs a x y e f p q = p ∙ sym q
 
 pub call : Settled Call.Post
 call κs a x y e f p q = p ∙ sym q

@@ -3,13 +3,13 @@ use Prim.Native.Nat.{ℕ}
 use mathlib.Core.Path.{◌≡◌, sym, ◌∙◌}
 use mathlib.Core.List.{List}
 use Rattle.planning.specs.Plan.{plan_of}
-use Rattle.soundness.proofs.Taken.{plan-number}
-use Rattle.soundness.proofs.PlannedSound.{plan-sound}
-use Rattle.dispatch.specs.Record.{recordOf}
+use Rattle.soundness.proofs.Taken.{plan_number}
+use Rattle.soundness.proofs.PlannedSound.{plan_sound_lem}
+use Rattle.dispatch.specs.Record.{record_of}
 use Rattle.dispatch.specs.Shape.{Good}
-use Rattle.soundness.proofs.PlannedShape.{started-plan}
-use Rattle.dispatch.proofs.Fresh.{fresh-good}
+use Rattle.soundness.proofs.PlannedShape.{started_plan}
+use Rattle.dispatch.proofs.Fresh.{fresh_good}
 
 -- the record that it starts
-pub started : (m : ℕ) (xs : List ℕ) → (plan_of m xs).refusal.no ≡ 0 → Good (recordOf (plan_of m xs).plan)
-started m xs ok = fresh-good (plan_of m xs).plan (started-plan m xs ok) (plan-sound m xs (sym (plan-number m xs) ∙ ok))
+pub started : (m : ℕ) (xs : List ℕ) → (plan_of m xs).refusal.no ≡ 0 → Good (record_of (plan_of m xs).plan)
+started m xs ok = fresh_good (plan_of m xs).plan (started_plan m xs ok) (plan_sound_lem m xs (sym (plan_number m xs) ∙ ok))

@@ -8,46 +8,46 @@ use Rattle.dispatch.specs.declared.call.Call.TheVariants.{Release, Finish, Look}
 use Rattle.dispatch.specs.declared.call.Answer.{Answer}
 use Rattle.dispatch.specs.declared.call.Answer.TheVariants.{Refused, Released, Finished, Looked}
 use Rattle.dispatch.specs.declared.call.Answered.{Answered}
-use Rattle.dispatch.specs.Release.{releaseOf}
-use Rattle.dispatch.specs.Finish.{finishOf}
+use Rattle.dispatch.specs.Release.{release_of}
+use Rattle.dispatch.specs.Finish.{finish_of}
 use Rattle.dispatch.specs.Look.{look_of}
 
 -- the answer of a call that is taken, or its refusal, which names no task
-abbrev pub orRefused : ℕ → Answer → Answer
-orRefused n taken = cond (eqb n 0) taken (Refused (refusal n 0))
+abbrev pub or_refused : ℕ → Answer → Answer
+or_refused n taken = cond (eqb n 0) taken (Refused (refusal n 0))
 
 -- a call's answer and the record that it hands on
-abbrev pub answeredOf : Record → Call → Answered
-answeredOf r (Release i t) =
-    let a = releaseOf r i t.0 in
-    record { answer = orRefused a.refusal (Released a.core a.deadline); next = a.next }
-answeredOf r (Finish i t) =
-    let a = finishOf r i t.0 in
-    record { answer = orRefused a.refusal (Finished a.late); next = a.next }
-answeredOf r (Look k t) =
+abbrev pub answered_of : Record → Call → Answered
+answered_of r (Release i t) =
+    let a = release_of r i t.0 in
+    record { answer = or_refused a.refusal (Released a.core a.deadline); next = a.next }
+answered_of r (Finish i t) =
+    let a = finish_of r i t.0 in
+    record { answer = or_refused a.refusal (Finished a.late); next = a.next }
+answered_of r (Look k t) =
     let a = look_of r k t.0 in
-    record { answer = orRefused a.refusal (Looked a.choice); next = a.next }
+    record { answer = or_refused a.refusal (Looked a.choice); next = a.next }
 
 -- the call's time
-abbrev pub timeOf : Call → ℕ
-timeOf (Release i t) = t.0
-timeOf (Finish i t) = t.0
-timeOf (Look k t) = t.0
+abbrev pub time_of : Call → ℕ
+time_of (Release i t) = t.0
+time_of (Finish i t) = t.0
+time_of (Look k t) = t.0
 
 -- an answer's refusal, 0 if the call is accepted
-abbrev pub refusalIn : Answer → ℕ
-refusalIn (Refused x) = x.no
-refusalIn (Released p d) = 0
-refusalIn (Finished late) = 0
-refusalIn (Looked choice) = 0
+abbrev pub refusal_in : Answer → ℕ
+refusal_in (Refused x) = x.no
+refusal_in (Released p d) = 0
+refusal_in (Finished late) = 0
+refusal_in (Looked choice) = 0
 
 -- the refusal that a call answers
-abbrev pub callRefusal : Record → Call → ℕ
-callRefusal r c = refusalIn (answeredOf r c).answer
+abbrev pub call_refusal : Record → Call → ℕ
+call_refusal r c = refusal_in (answered_of r c).answer
 
 -- the record that it hands on
 abbrev pub step : Record → Call → Record
-step r c = (answeredOf r c).next
+step r c = (answered_of r c).next
 
 -- the record after calls
 abbrev pub after : Record → List Call → Record
@@ -55,9 +55,9 @@ after r [] = r
 after r (c ∷ cs) = after (step r c) cs
 
 -- the answers of calls, in order
-abbrev pub answersOf : Record → List Call → List Answer
-answersOf r [] = []
-answersOf r (c ∷ cs) = (answeredOf r c).answer ∷ answersOf (step r c) cs
+abbrev pub answers_of : Record → List Call → List Answer
+answers_of r [] = []
+answers_of r (c ∷ cs) = (answered_of r c).answer ∷ answers_of (step r c) cs
 
 -- a call is a release of task i
 abbrev pub releases : ℕ → Call → Bool
@@ -66,20 +66,20 @@ releases i (Finish j t) = false
 releases i (Look k t) = false
 
 -- the core that an answer tells, if it is that of an accepted release
-abbrev pub coreIn : Answer → List ℕ
-coreIn (Refused x) = []
-coreIn (Released p d) = p ∷ []
-coreIn (Finished late) = []
-coreIn (Looked choice) = []
+abbrev pub core_in : Answer → List ℕ
+core_in (Refused x) = []
+core_in (Released p d) = p ∷ []
+core_in (Finished late) = []
+core_in (Looked choice) = []
 
 -- the core that a call answers, if it is an accepted release of task i
-abbrev pub coreBy : ℕ → Record → Call → List ℕ
-coreBy i r c = cond (releases i c) (coreIn (answeredOf r c).answer) []
+abbrev pub core_by : ℕ → Record → Call → List ℕ
+core_by i r c = cond (releases i c) (core_in (answered_of r c).answer) []
 
 -- the cores that the accepted releases of task i answer, in order
-abbrev pub coresOf : ℕ → Record → List Call → List ℕ
-coresOf i r [] = []
-coresOf i r (c ∷ cs) = coreBy i r c ++ coresOf i (step r c) cs
+abbrev pub cores_of : ℕ → Record → List Call → List ℕ
+cores_of i r [] = []
+cores_of i r (c ∷ cs) = core_by i r c ++ cores_of i (step r c) cs
 
 -- how many of a list of cores are core p
 abbrev pub among : ℕ → List ℕ → ℕ
@@ -87,9 +87,9 @@ among p [] = 0
 among p (k ∷ ks) = bit (eqb k p) + among p ks
 
 -- how many of the first c
-abbrev pub sentTo : ℕ → List ℕ → ℕ → ℕ
-sentTo p ks c = among p (take c ks)
+abbrev pub sent_to : ℕ → List ℕ → ℕ → ℕ
+sent_to p ks c = among p (take c ks)
 
 -- how many of c in a row, after the first a
-abbrev pub inARow : ℕ → List ℕ → ℕ → ℕ → ℕ
-inARow p ks a c = among p (take c (drop a ks))
+abbrev pub in_a_row : ℕ → List ℕ → ℕ → ℕ → ℕ
+in_a_row p ks a c = among p (take c (drop a ks))

@@ -2,14 +2,14 @@
 -- Tasks and cores are from 1.
 use Rattle.std.specs.Prelude.{ℕ, ◌+◌, ◌-◌, ◌<◌, ◌≡◌, ◌⊎◌, false}
 use Rattle.units.specs.declared.ticks.Ticks.{Ticks}
-use Rattle.planning.specs.Tasks.{taskLine}
+use Rattle.planning.specs.Tasks.{task_line}
 use Rattle.task_state.specs.declared.State.{State}
 use Rattle.task_state.specs.State.{run_at}
 use Rattle.dispatch.specs.declared.Record.{Record}
 use Rattle.dispatch.specs.declared.call.Call.{Call}
 use Rattle.dispatch.specs.declared.call.Call.TheVariants.{Release, Finish, Look}
-use Rattle.dispatch.specs.Record.{stateAt}
-use Rattle.dispatch.specs.Sound.{soundOf}
+use Rattle.dispatch.specs.Record.{state_at}
+use Rattle.dispatch.specs.Sound.{sound_of}
 
 infixr 2 ◌if◌else◌
 -- number k is given if its case applies; if it does not, what the later rows give
@@ -22,12 +22,12 @@ abbrev pub none : ℕ → Type 0
 none n = n ≡ 0
 
 -- the state of task i
-abbrev pub taskState : Record → ℕ → State
-taskState r i = stateAt r (i - 1)
+abbrev pub task_state : Record → ℕ → State
+task_state r i = state_at r (i - 1)
 
 -- a record handed in is unsound
 abbrev pub Unsound : Record → Type 0
-Unsound r = soundOf r ≡ false
+Unsound r = sound_of r ≡ false
 
 -- a number is 0 or above n
 abbrev pub Out : ℕ → ℕ → Type 0
@@ -42,28 +42,28 @@ abbrev pub Past : Record → Ticks → Type 0
 Past r t = t.0 < r.clock.0
 
 -- the last release time of task i plus T
-abbrev pub nextRelease : Record → ℕ → ℕ
-nextRelease r i = (taskState r i).last.0 + (taskLine r.plan i).period.0
+abbrev pub next_release : Record → ℕ → ℕ
+next_release r i = (task_state r i).last.0 + (task_line r.plan i).period.0
 
 -- a release of task i is early: less than T after its last one
 abbrev pub Early : Record → ℕ → Ticks → Type 0
-Early r i t = ((taskState r i).had ≡ 1) × (t.0 < nextRelease r i)
+Early r i t = ((task_state r i).had ≡ 1) × (t.0 < next_release r i)
 
 -- it is held until a release time above the clock's limit
 abbrev pub HeldOver : Record → ℕ → Ticks → Type 0
-HeldOver r i t = Early r i t × (1000000000000 < nextRelease r i)
+HeldOver r i t = Early r i t × (1000000000000 < next_release r i)
 
 -- the release time of task i's oldest unfinished run: its deadline less T
-abbrev pub oldestRelease : Record → ℕ → ℕ
-oldestRelease r i = (run_at (taskState r i) 0).deadline.0 - (taskLine r.plan i).period.0
+abbrev pub oldest_release : Record → ℕ → ℕ
+oldest_release r i = (run_at (task_state r i) 0).deadline.0 - (task_line r.plan i).period.0
 
 -- that run is held at time t
 abbrev pub OldestHeld : Record → ℕ → Ticks → Type 0
-OldestHeld r i t = t.0 < oldestRelease r i
+OldestHeld r i t = t.0 < oldest_release r i
 
 -- n runs of task i are unfinished
 abbrev pub Unfinished : Record → ℕ → ℕ → Type 0
-Unfinished r i n = (taskState r i).live ≡ n
+Unfinished r i n = (task_state r i).live ≡ n
 
 -- a call is refused by number n, or taken where n is 0
 abbrev pub Given : Record → Call → ℕ → Type 0

@@ -1,37 +1,37 @@
 -- Release: the run's core and its deadline, from its release time on.
 use Rattle.std.specs.Prelude.{ℕ, ◌-◌, cond, eqb}
 use Rattle.units.specs.Units.{ticks}
-use Rattle.units.specs.Refusals.{orKept}
+use Rattle.units.specs.Refusals.{or_kept}
 use Rattle.units.specs.declared.ticks.Ticks.{Ticks}
-use Rattle.task_state.specs.Due.{releaseAt}
-use Rattle.task_state.specs.Runs.{turnAt, due_at, with_run}
+use Rattle.task_state.specs.Due.{release_at}
+use Rattle.task_state.specs.Runs.{turn_at, due_at, with_run}
 use Rattle.dispatch.specs.declared.Record.{Record}
 use Rattle.dispatch.specs.declared.release.Released.{Released}
-use Rattle.dispatch.specs.Record.{line_at, stateAt, moved}
-use Rattle.dispatch.specs.Refusals.{releaseRefusal}
+use Rattle.dispatch.specs.Record.{line_at, state_at, moved}
+use Rattle.dispatch.specs.Refusals.{release_refusal}
 
 -- an accepted release of task i, from 1
-unfoldable pub takeRelease : Record → ℕ → ℕ → Released
-takeRelease r i t =
+unfoldable pub take_release : Record → ℕ → ℕ → Released
+take_release r i t =
     let ln = line_at r (i - 1) in
-    let st = stateAt r (i - 1) in
+    let st = state_at r (i - 1) in
     record {
       refusal = 0;
-      core = (turnAt ln st).core;
+      core = (turn_at ln st).core;
       deadline = ticks (due_at ln st t);
-      next = moved r (i - 1) (with_run ln st (releaseAt ln st t)) t;
+      next = moved r (i - 1) (with_run ln st (release_at ln st t)) t;
     }
 
 -- a refused one: every other number 0, the same record
-unfoldable pub refuseRelease : ℕ → Record → Released
-refuseRelease n r = record { refusal = n; core = 0; deadline = ticks 0; next = r }
+unfoldable pub refuse_release : ℕ → Record → Released
+refuse_release n r = record { refusal = n; core = 0; deadline = ticks 0; next = r }
 
 -- release
-unfoldable pub releaseOf : Record → ℕ → ℕ → Released
-releaseOf r i t = cond (eqb (releaseRefusal r i t) 0) (takeRelease r i t) (refuseRelease (releaseRefusal r i t) r)
+unfoldable pub release_of : Record → ℕ → ℕ → Released
+release_of r i t = cond (eqb (release_refusal r i t) 0) (take_release r i t) (refuse_release (release_refusal r i t) r)
 
 -- release, with a core and a deadline that are answered where it is refused
-unfoldable pub releaseOr : Record → ℕ → ℕ → ℕ → Ticks → Released
-releaseOr r i t core deadline =
-    let a = releaseOf r i t in
-    record { refusal = a.refusal; core = orKept a.refusal a.core core; deadline = orKept a.refusal a.deadline deadline; next = a.next }
+unfoldable pub release_or : Record → ℕ → ℕ → ℕ → Ticks → Released
+release_or r i t core deadline =
+    let a = release_of r i t in
+    record { refusal = a.refusal; core = or_kept a.refusal a.core core; deadline = or_kept a.refusal a.deadline deadline; next = a.next }

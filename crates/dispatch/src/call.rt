@@ -1,6 +1,6 @@
 // A call and its answer as values, for who reads calls from a text.
 ghost use Rattle.std.specs.Prelude.{◌≡◌};
-ghost use Rattle.dispatch.specs.Calls.{orRefused, answeredOf};
+ghost use Rattle.dispatch.specs.Calls.{or_refused, answered_of};
 
 use crate::Record;
 use core_choice::Choice;
@@ -33,7 +33,7 @@ pub struct Answered {
 
 // The answer of a call that is taken; or its refusal, which names no task.
 fn or_refused(no: u32, taken: Answer) -> Answer
-    ensures { result ≡ orRefused no taken }
+    ensures { result ≡ or_refused no taken }
 {
     if no != 0 {
         return Answer::Refused(Refusal { no: no, named: 0 });
@@ -44,7 +44,7 @@ fn or_refused(no: u32, taken: Answer) -> Answer
 impl Record {
     // The call's answer, and the record after it; or the refusal, and the same record.
     pub fn call(self, call: Call) -> Answered
-        ensures { result ≡ answeredOf self call }
+        ensures { result ≡ answered_of self call }
     {
         match call {
             Call::Release(task, time) => {

@@ -1,6 +1,6 @@
 // Finish.
 ghost use Rattle.std.specs.Prelude.{◌≡◌};
-ghost use Rattle.dispatch.specs.Finish.{finishOf, finishOr};
+ghost use Rattle.dispatch.specs.Finish.{finish_of, finish_or};
 
 use crate::Record;
 use call_tests::shared_tests;
@@ -18,14 +18,14 @@ pub struct Finished {
 impl Record {
     // The time less the deadline of the task's oldest unfinished run, which is ended; or the refusal, and the same record.
     pub fn finish(self, task: usize, time: Ticks) -> Finished
-        ensures { result ≡ finishOf self task time.0 }
+        ensures { result ≡ finish_of self task time.0 }
     {
         self.finish_or(task, time, 0)
     }
 
     // The same, with the lateness that is answered where it is refused. One way out: each would copy the record.
     pub fn finish_or(mut self, task: usize, time: Ticks, late: i64) -> Finished
-        ensures { result ≡ finishOr self task time.0 late }
+        ensures { result ≡ finish_or self task time.0 late }
     {
         let clock = self.clock;
         let sound = self.sound();

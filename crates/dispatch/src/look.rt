@@ -1,6 +1,6 @@
 // Look.
 ghost use Rattle.std.specs.Prelude.{◌≡◌};
-ghost use Rattle.dispatch.specs.Look.{look_of, lookOr};
+ghost use Rattle.dispatch.specs.Look.{look_of, look_or};
 
 use crate::Record;
 use call_tests::shared_tests;
@@ -43,7 +43,7 @@ impl Record {
     // The same in numbers, with those that are answered where it is refused.
     // One way out, and the loop here: a record that is handed on is copied.
     pub fn look_or(mut self, core: usize, time: Ticks, told: Told) -> LookedTold
-        ensures { result ≡ lookOr self core time.0 told }
+        ensures { result ≡ look_or self core time.0 told }
     {
         let clock = self.clock;
         let sound = self.sound();

@@ -1,6 +1,6 @@
 // Planning for the dispatcher: a fresh record.
 ghost use Rattle.std.specs.Prelude.{◌≡◌};
-ghost use Rattle.dispatch.specs.Record.{recordOf, fresh_of};
+ghost use Rattle.dispatch.specs.Record.{record_of, fresh_of};
 
 use crate::Record;
 use planning::{Plan, plan_of};
@@ -19,7 +19,7 @@ pub struct Fresh {
 impl Record {
     // The record of a plan, with clock 0 and no runs.
     pub fn of(plan: Plan) -> Record
-        ensures { result ≡ recordOf plan }
+        ensures { result ≡ record_of plan }
     {
         Record {
             plan: plan,

@@ -1,6 +1,6 @@
 // Release.
 ghost use Rattle.std.specs.Prelude.{◌≡◌};
-ghost use Rattle.dispatch.specs.Release.{releaseOf, releaseOr};
+ghost use Rattle.dispatch.specs.Release.{release_of, release_or};
 
 use crate::Record;
 use call_tests::shared_tests;
@@ -19,14 +19,14 @@ pub struct Released {
 impl Record {
     // The run's core and deadline, and the record after it; or the refusal, and the same record.
     pub fn release(self, task: usize, time: Ticks) -> Released
-        ensures { result ≡ releaseOf self task time.0 }
+        ensures { result ≡ release_of self task time.0 }
     {
         self.release_or(task, time, 0, Ticks(0))
     }
 
     // The same, with the core and the deadline that are answered where it is refused. One way out: each would copy the record.
     pub fn release_or(mut self, task: usize, time: Ticks, core: usize, deadline: Ticks) -> Released
-        ensures { result ≡ releaseOr self task time.0 core deadline }
+        ensures { result ≡ release_or self task time.0 core deadline }
     {
         let clock = self.clock;
         let sound = self.sound();

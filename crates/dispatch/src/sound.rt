@@ -1,8 +1,8 @@
 // Refusal 15: whether a record is sound, for any numbers whatever.
 ghost use Rattle.std.specs.Prelude.{◌≡◌};
-ghost use Rattle.units.specs.Limits.{tasksLimit};
+ghost use Rattle.units.specs.Limits.{tasks_limit};
 ghost use Rattle.lists.specs.Below.{all_below};
-ghost use Rattle.dispatch.specs.Sound.{stateOk, soundOf};
+ghost use Rattle.dispatch.specs.Sound.{state_ok, sound_of};
 
 use crate::Record;
 use planning::Plan;
@@ -13,7 +13,7 @@ use units::limits::{CLOCK, TASKS};
 
 // Each task in use is sound, the others are empty.
 fn states_sound(plan: Plan, states: [State; TASKS]) -> bool
-    ensures { result ≡ all_below tasksLimit (stateOk plan states) }
+    ensures { result ≡ all_below tasks_limit (state_ok plan states) }
 {
     let count = plan.count;
     let mut i: usize = 0;
@@ -31,7 +31,7 @@ fn states_sound(plan: Plan, states: [State; TASKS]) -> bool
 impl Record {
     // A sound record. The states come first: what is copied before the longer test need not be copied twice.
     pub fn sound(self) -> bool
-        ensures { result ≡ soundOf self }
+        ensures { result ≡ sound_of self }
     {
         if CLOCK < self.clock.0 {
             return false;

@@ -30,7 +30,7 @@ use denote.Triple.End.{all, Fins, Outs, outs, lasts_of}
 use denote.Triple.Clauses.{Ended, Clauses, closing}
 use denote.Exit.{yes}
 use Rattle.exports.proofs.Held.{Held, row, Good, made, values, rows, Ins, vals, Goods}
-use Rattle.exports.proofs.Steps.{tokens, tokens-of, of-tokens}
+use Rattle.exports.proofs.Steps.{tokens, tokens_of, of_tokens}
 
 -- what is ensured, of the arguments, the result and the arguments at the exit
 abbrev pub Ensures : {n : ℕ} → List (Slot n) → Held → Type 1
@@ -74,7 +74,7 @@ module _ {M : Type 1} {𝓤 : Ura M} {𝓛 : Logic 𝓤} {K : Type 0} {C : Calls
       → Seq K 𝓛 (tokens 𝓤 n κs qs ++ ‵ (lasts_of κs ss (all yes ss) a z) ∷ Γ) (lands C Λ E d (X.val r) rest q))
       → Seq K 𝓛 (tokens 𝓤 n κs qs ++ ‵ (owns (types_at ss κs) a vss) ∷ Γ) (runs C Λ E (seq (call f xs d) rest) q)
   asks t fm {Γ = Γ} {n = n} ss X F met κs qs a vss ops k =
-      cut (tokens 𝓤 n κs qs) (raw (toks 𝓛 n κs qs) ∷ []) (‵ (owns (types_at ss κs) a vss) ∷ Γ) (of-tokens 𝓛 n κs qs) $
+      cut (tokens 𝓤 n κs qs) (raw (toks 𝓛 n κs qs) ∷ []) (‵ (owns (types_at ss κs) a vss) ∷ Γ) (of_tokens 𝓛 n κs qs) $
       join t $ nothing t $ move t (1 ∷ 0 ∷ []) $ join t $
       use1 𝓛 (raw ((Ensuring ss X F 𝓤 𝓛).pre ((κs, qs, tt, a, vss), tt))) (id⊢ 𝓤 _) $
       calls_at t fm (Ensuring ss X F 𝓤 𝓛) met ((κs, qs, tt, a, vss), tt) ops (λ v.
@@ -84,15 +84,15 @@ module _ {M : Type 1} {𝓤 : Ura M} {𝓛 : Logic 𝓤} {K : Type 0} {C : Calls
       heard t (F κs a r (outs κs ss (all yes ss) a z)) (λ same.
       -- [what says the last values; the tokens and the result]
       move t (1 ∷ []) $ split t $ move t (1 ∷ []) $ known t X r v (λ g.
-      cut (raw (toks 𝓛 n κs qs) ∷ []) (tokens 𝓤 n κs qs) (‵ (lasts_of κs ss (all yes ss) a z) ∷ Γ) (tokens-of 𝓛 n κs qs) $ k r z same g)))))
+      cut (raw (toks 𝓛 n κs qs) ∷ []) (tokens 𝓤 n κs qs) (‵ (lasts_of κs ss (all yes ss) a z) ∷ Γ) (tokens_of 𝓛 n κs qs) $ k r z same g)))))
 
   -- a call with plain data by value
-  pub asks-plain : K → FmC 𝓤 H 𝓛.laws C → {Γ : List (Item 𝓤)} (hs : List Held) (X : Held) (F : Ensures (values hs) X)
+  pub asks_plain : K → FmC 𝓤 H 𝓛.laws C → {Γ : List (Item 𝓤)} (hs : List Held) (X : Held) (F : Ensures (values hs) X)
       → {f : Name} {xs : List Operand} → Triple 𝓤 (C f) (Ensuring (values hs) X F 𝓤 𝓛) → (a : Ins hs) → Goods hs a
       → Opds K 𝓛 (raw ((Ensuring (values hs) X F 𝓤 𝓛).pre ((tt, tt, tt, a, vals hs a), tt)) ∷ Γ) E xs (flat (rows hs) (vals hs a))
       → ((r : X.Denot) (z : Fins tt (values hs) (all yes (values hs)) a) → F tt a r (outs tt (values hs) (all yes (values hs)) a z) → Good X r
       → Seq K 𝓛 Γ (lands C Λ E d (X.val r) rest q))
       → Seq K 𝓛 Γ (runs C Λ E (seq (call f xs d) rest) q)
-  asks-plain t fm hs X F met a g ops k =
+  asks_plain t fm hs X F met a g ops k =
       use0 𝓛 (‵ (owns (rows hs) a (vals hs a))) (owns_make 𝓛 (rows hs) (Ises (rows hs)) (makess 𝓛 hs) a (vals hs a) g) $
       asks t fm (values hs) X F met tt tt a (vals hs a) ops (λ r z same gx. drop t $ k r z same gx)

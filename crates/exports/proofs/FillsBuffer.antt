@@ -96,5 +96,5 @@ module _ (R Q : Held) (S : Answer (number w32 ∷ Q ∷ [])) (w : Width) where
         (ap (refusal S) same.0, same.1, ap out same.0) (parts S r ok).0)))))))))))))
 
     -- f, proved by `Exported.proves`
-    abbrev pub fillsBuffer : Exported
-    fillsBuffer = record { n = 3; ps = params; E = E; code = code; m = 1; ss = ins; X = held S; F = F; walk = walk }
+    abbrev pub fills_buffer : Exported
+    fills_buffer = record { n = 3; ps = params; E = E; code = code; m = 1; ss = ins; X = held S; F = F; walk = walk }

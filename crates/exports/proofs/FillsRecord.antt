@@ -83,5 +83,5 @@ module _ (R : Held) (S : Answer (number w32 ∷ R ∷ [])) (w₁ w₂ : Width) w
         ends params E ! κs qs a (refusal S r) (next r, (tt, (tt, tt))) (tt, (tt, (tt, tt))) (ap (refusal S) same, ap next same) (parts S r ok).0))))))))
 
     -- f, proved by `Exported.proves`
-    abbrev pub fillsRecord : Exported
-    fillsRecord = record { n = 2; ps = params; E = E; code = code; m = 1; ss = ins; X = held S; F = F; walk = walk }
+    abbrev pub fills_record : Exported
+    fills_record = record { n = 2; ps = params; E = E; code = code; m = 1; ss = ins; X = held S; F = F; walk = walk }

@@ -18,7 +18,7 @@ use types.Part.{whole, sub}
 use Rattle.exports.proofs.Held.{Held, number, values, fits}
 use Rattle.exports.proofs.Answer.{Answer, held, parts, refusal}
 use Rattle.exports.proofs.Steps.{opened, shut, loads, stores, puts, pass, leave}
-use Rattle.exports.proofs.Called.{Ensures, asks-plain}
+use Rattle.exports.proofs.Called.{Ensures, asks_plain}
 use Rattle.exports.proofs.Params.{Param, slots, integer, lent}
 use Rattle.exports.proofs.Exported.{function, Walk, ends, Exported}
 
@@ -72,7 +72,7 @@ module _ (R Q : Held) (S : Answer (number w32 ∷ Q ∷ R ∷ [])) (w₁ w₂ : 
         -- [the cell, the open borrow, obs and auth of held and of out; the locals, the last first, each with what frees it; what a and b own]
         loads ! 20 refl 0 refl 10 refl (fits 𝓛 R _ gh) $
         loads ! 14 refl 4 refl 8 refl (fits 𝓛 Q _ gq) $
-        asks-plain ! fm ins (held S) F met (a.0.now, (a.1.0, (a.1.1.0, (a.1.1.1.0.now, tt)))) (gh, (are.1.0, (are.1.1.0, (gq, tt))))
+        asks_plain ! fm ins (held S) F met (a.0.now, (a.1.0, (a.1.1.0, (a.1.1.1.0.now, tt)))) (gh, (are.1.0, (are.1.1.0, (gq, tt))))
         (pass ! 11 refl (pass ! 19 refl (pass ! 17 refl (pass ! 9 refl (no_more !))))) (λ r z same ok.
         land ! (from ! (stop !)) (init ! 12 refl (fits 𝓛 (held S) r ok)) $
         stores ! refl 12 (sub ! 2 refl (whole !)) 20 refl 0 refl (fits 𝓛 R _ (parts S r ok).1.1.0) $
@@ -87,5 +87,5 @@ module _ (R Q : Held) (S : Answer (number w32 ∷ Q ∷ R ∷ [])) (w₁ w₂ : 
         (ap (refusal S) same, ap next same, ap out same) (parts S r ok).0)))))))))))
 
     -- f, proved by `Exported.proves`
-    abbrev pub oneValueOut : Exported
-    oneValueOut = record { n = 2; ps = params; E = E; code = code; m = 0; ss = values ins; X = held S; F = F; walk = walk }
+    abbrev pub one_value_out : Exported
+    one_value_out = record { n = 2; ps = params; E = E; code = code; m = 0; ss = values ins; X = held S; F = F; walk = walk }

@@ -111,10 +111,10 @@ module _ {n : ℕ} where
   stayed (p ∷ ps) = (p.stay, stayed ps)
 
   -- it gives what the contract says
-  pub allGo : {M : Type 1} {𝓤 : Ura M} (𝓛 : Logic 𝓤) (ps : List (Param n))
+  pub all_go : {M : Type 1} {𝓤 : Ura M} (𝓛 : Logic 𝓤) (ps : List (Param n))
       → AllGo 𝓛 n (slots ps) (all yes (slots ps)) (stayed ps)
-  allGo 𝓛 [] = tt
-  allGo 𝓛 (p ∷ ps) = (p.goes 𝓛, allGo 𝓛 ps)
+  all_go 𝓛 [] = tt
+  all_go 𝓛 (p ∷ ps) = (p.goes 𝓛, all_go 𝓛 ps)
 
   module _ (κs : Lfts n) where
     -- a value of each
@@ -151,12 +151,12 @@ module _ {n : ℕ} where
 
     module _ {M : Type 1} {𝓤 : Ura M} (𝓛 : Logic 𝓤) where
       -- it is so
-      pub owns-owned : (ps : List (Param n)) (a : Args ps) → ent 𝓤 (sem 𝓛 (owns (types_at (slots ps) κs) a (passed ps a))) (⋆ 𝓛 (owned 𝓤 ps a))
-      owns-owned [] a = id⊢ 𝓤 (emp 𝓤)
-      owns-owned (p ∷ ps) a = onto 𝓛 _ (owned 𝓤 ps a.1) _ (owns-owned ps a.1)
+      pub owns_owned : (ps : List (Param n)) (a : Args ps) → ent 𝓤 (sem 𝓛 (owns (types_at (slots ps) κs) a (passed ps a))) (⋆ 𝓛 (owned 𝓤 ps a))
+      owns_owned [] a = id⊢ 𝓤 (emp 𝓤)
+      owns_owned (p ∷ ps) a = onto 𝓛 _ (owned 𝓤 ps a.1) _ (owns_owned ps a.1)
 
       -- and it is what `Denote/Triple/Walked.antt` asks
-      pub left-has : (ps : List (Param n)) (a : Args ps) (ws : Lasts ps a)
+      pub left_has : (ps : List (Param n)) (a : Args ps) (ws : Lasts ps a)
           → ent 𝓤 (⋆ 𝓛 (left 𝓤 ps a ws)) (sem 𝓛 (has_of κs (slots ps) (all yes (slots ps)) (stayed ps) a ws (passed ps a)))
-      left-has [] a ws = id⊢ 𝓤 (emp 𝓤)
-      left-has (p ∷ ps) a ws = off 𝓛 _ (left 𝓤 ps a.1 ws.1) _ (left-has ps a.1 ws.1)
+      left_has [] a ws = id⊢ 𝓤 (emp 𝓤)
+      left_has (p ∷ ps) a ws = off 𝓛 _ (left 𝓤 ps a.1 ws.1) _ (left_has ps a.1 ws.1)

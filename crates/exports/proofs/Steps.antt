@@ -161,11 +161,11 @@ tokens 𝓤 (suc n) κs qs = ‵ (flft κs.0 qs.0) ∷ tokens 𝓤 n κs.1 qs.1
 
 module _ {M : Type 1} {𝓤 : Ura M} (𝓛 : Logic 𝓤) where
   -- to them
-  pub tokens-of : (n : ℕ) (κs : Lfts n) (qs : Shares n) → ent 𝓤 (toks 𝓛 n κs qs) (⋆ 𝓛 (tokens 𝓤 n κs qs))
-  tokens-of zero κs qs = id⊢ 𝓤 (emp 𝓤)
-  tokens-of (suc n) κs qs = onto 𝓛 (flft κs.0 qs.0) (tokens 𝓤 n κs.1 qs.1) (toks 𝓛 n κs.1 qs.1) (tokens-of n κs.1 qs.1)
+  pub tokens_of : (n : ℕ) (κs : Lfts n) (qs : Shares n) → ent 𝓤 (toks 𝓛 n κs qs) (⋆ 𝓛 (tokens 𝓤 n κs qs))
+  tokens_of zero κs qs = id⊢ 𝓤 (emp 𝓤)
+  tokens_of (suc n) κs qs = onto 𝓛 (flft κs.0 qs.0) (tokens 𝓤 n κs.1 qs.1) (toks 𝓛 n κs.1 qs.1) (tokens_of n κs.1 qs.1)
 
   -- and from them
-  pub of-tokens : (n : ℕ) (κs : Lfts n) (qs : Shares n) → ent 𝓤 (⋆ 𝓛 (tokens 𝓤 n κs qs)) (toks 𝓛 n κs qs)
-  of-tokens zero κs qs = id⊢ 𝓤 (emp 𝓤)
-  of-tokens (suc n) κs qs = off 𝓛 (flft κs.0 qs.0) (tokens 𝓤 n κs.1 qs.1) (toks 𝓛 n κs.1 qs.1) (of-tokens n κs.1 qs.1)
+  pub of_tokens : (n : ℕ) (κs : Lfts n) (qs : Shares n) → ent 𝓤 (⋆ 𝓛 (tokens 𝓤 n κs qs)) (toks 𝓛 n κs qs)
+  of_tokens zero κs qs = id⊢ 𝓤 (emp 𝓤)
+  of_tokens (suc n) κs qs = off 𝓛 (flft κs.0 qs.0) (tokens 𝓤 n κs.1 qs.1) (toks 𝓛 n κs.1 qs.1) (of_tokens n κs.1 qs.1)

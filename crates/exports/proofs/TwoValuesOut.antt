@@ -19,7 +19,7 @@ use types.Part.{whole, sub}
 use Rattle.exports.proofs.Held.{Held, number, values, fits}
 use Rattle.exports.proofs.Answer.{Answer, held, parts, refusal}
 use Rattle.exports.proofs.Steps.{opened, shut, loads, stores, puts, pass, leave}
-use Rattle.exports.proofs.Called.{Ensures, asks-plain}
+use Rattle.exports.proofs.Called.{Ensures, asks_plain}
 use Rattle.exports.proofs.Params.{Param, slots, integer, lent}
 use Rattle.exports.proofs.Exported.{function, Walk, ends, Exported}
 
@@ -82,7 +82,7 @@ module _ (R P Q : Held) (S : Answer (number w32 ∷ P ∷ Q ∷ R ∷ [])) (w₁
         loads ! 28 refl 0 refl 16 refl (fits 𝓛 R _ gh) $
         loads ! 22 refl 4 refl 14 refl (fits 𝓛 P _ gp) $
         loads ! 20 refl 8 refl 12 refl (fits 𝓛 Q _ gq) $
-        asks-plain ! fm ins (held S) F met (a.0.now, (a.1.0, (a.1.1.0, (a.1.1.1.0.now, (a.1.1.1.1.0.now, tt)))))
+        asks_plain ! fm ins (held S) F met (a.0.now, (a.1.0, (a.1.1.0, (a.1.1.1.0.now, (a.1.1.1.1.0.now, tt)))))
         (gh, (are.1.0, (are.1.1.0, (gp, (gq, tt)))))
         (pass ! 17 refl (pass ! 27 refl (pass ! 25 refl (pass ! 15 refl (pass ! 13 refl (no_more !)))))) (λ r z same ok.
         land ! (from ! (stop !)) (init ! 18 refl (fits 𝓛 (held S) r ok)) $
@@ -102,5 +102,5 @@ module _ (R P Q : Held) (S : Answer (number w32 ∷ P ∷ Q ∷ R ∷ [])) (w₁
         (ap (refusal S) same, ap next same, ap one same, ap two same) (parts S r ok).0))))))))))))))
 
     -- f, proved by `Exported.proves`
-    abbrev pub twoValuesOut : Exported
-    twoValuesOut = record { n = 3; ps = params; E = E; code = code; m = 0; ss = values ins; X = held S; F = F; walk = walk }
+    abbrev pub two_values_out : Exported
+    two_values_out = record { n = 3; ps = params; E = E; code = code; m = 0; ss = values ins; X = held S; F = F; walk = walk }

@@ -1,13 +1,13 @@
 -- What an instant asks of the tasks, in a list of seven numbers a task.
 use Rattle.std.specs.Prelude.{ℕ, ◌+◌, ◌*◌, List, get_or, set}
 use Rattle.lists.specs.Tabled.{tabled}
-use Rattle.units.specs.Limits.{tasksLimit}
+use Rattle.units.specs.Limits.{tasks_limit}
 use Rattle.units.specs.Units.{ticks}
 use Rattle.fronts.specs.declared.Front.{Front}
 
 -- task i's, from 0
-abbrev pub frontAt : List ℕ → ℕ → Front
-frontAt xs i = record {
+abbrev pub front_at : List ℕ → ℕ → Front
+front_at xs i = record {
   core = get_or xs (7 * i) 0;
   release = ticks (get_or xs (7 * i + 1) 0);
   key = get_or xs (7 * i + 2) 0;
@@ -18,14 +18,14 @@ frontAt xs i = record {
 }
 
 -- all tasks'
-unfoldable pub frontsIn : List ℕ → List Front
-frontsIn xs = tabled (frontAt xs) tasksLimit
+unfoldable pub fronts_in : List ℕ → List Front
+fronts_in xs = tabled (front_at xs) tasks_limit
 
 -- a front's first three numbers at a place
-abbrev pub putRun : List ℕ → ℕ → Front → List ℕ
-putRun xs at f = set (set (set xs at f.core) (at + 1) f.release.0) (at + 2) f.key
+abbrev pub put_run : List ℕ → ℕ → Front → List ℕ
+put_run xs at f = set (set (set xs at f.core) (at + 1) f.release.0) (at + 2) f.key
 
 -- task i has another
-abbrev pub putFront : List ℕ → ℕ → Front → List ℕ
-putFront xs i f =
-    set (set (set (set (putRun xs (7 * i) f) (7 * i + 3) f.length) (7 * i + 4) f.run) (7 * i + 5) f.last.0) (7 * i + 6) f.period
+abbrev pub put_front : List ℕ → ℕ → Front → List ℕ
+put_front xs i f =
+    set (set (set (set (put_run xs (7 * i) f) (7 * i + 3) f.length) (7 * i + 4) f.run) (7 * i + 5) f.last.0) (7 * i + 6) f.period

@@ -1,7 +1,7 @@
 // What an instant asks of the tasks, in a lent list of seven numbers a task: nothing of it is copied.
 ghost use Rattle.std.specs.Prelude.{◌≡◌, ◌*◌, ◌<◌, length};
-ghost use Rattle.units.specs.Limits.{tasksLimit};
-ghost use Rattle.front_rows.specs.Rows.{frontAt, putFront};
+ghost use Rattle.units.specs.Limits.{tasks_limit};
+ghost use Rattle.front_rows.specs.Rows.{front_at, put_front};
 
 use fronts::Front;
 use lent_numbers::store_wide;
@@ -9,8 +9,8 @@ use units::ticks::Ticks;
 
 // A task's front, its task from 0.
 pub fn front_in(fronts: &[u64], i: usize) -> Front
-    requires { (i < tasksLimit) × (length fronts.now ≡ 7 * tasksLimit) }
-    ensures { result ≡ frontAt fronts.now i }
+    requires { (i < tasks_limit) × (length fronts.now ≡ 7 * tasks_limit) }
+    ensures { result ≡ front_at fronts.now i }
 {
     let at = 7 * i;
     let core = fronts[at] as usize;
@@ -33,8 +33,8 @@ pub fn front_in(fronts: &[u64], i: usize) -> Front
 
 // A task has another front.
 pub fn store_front(fronts: &mut [u64], i: usize, front: Front)
-    requires { i < tasksLimit }
-    ensures { fronts.new ≡ putFront fronts.old i front }
+    requires { i < tasks_limit }
+    ensures { fronts.new ≡ put_front fronts.old i front }
 {
     let at = 7 * i;
     let core = front.core as u64;

@@ -1,8 +1,8 @@
 // What an instant asks of a task: its oldest unfinished run, and when a run of it is released next.
 ghost use Rattle.std.specs.Prelude.{◌≡◌};
 ghost use Rattle.units.specs.Units.{ticks};
-ghost use Rattle.release_times.specs.Times.{releasedAt};
-ghost use Rattle.fronts.specs.Front.{frontOf, sees, ahead_of};
+ghost use Rattle.release_times.specs.Times.{released_at};
+ghost use Rattle.fronts.specs.Front.{front_of, sees, ahead_of};
 ghost use Rattle.fronts.specs.Inner.{Frontable};
 
 use planning::Line;
@@ -54,7 +54,7 @@ impl Front {
 
 // A run's release time: its deadline less the time from release to deadline.
 fn released(deadline: Ticks, after: Duration) -> Ticks
-    ensures { result ≡ ticks (releasedAt after.0 deadline.0) }
+    ensures { result ≡ ticks (released_at after.0 deadline.0) }
 {
     let long = after.0 as u64;
     if deadline.0 < long {
@@ -66,7 +66,7 @@ fn released(deadline: Ticks, after: Duration) -> Ticks
 // A task's front, by its line, its state and its runs' lengths.
 pub fn front_of(line: Line, state: State, work: Work) -> Front
     requires { Frontable line state work }
-    ensures { result ≡ frontOf line state work }
+    ensures { result ≡ front_of line state work }
 {
     let last = state.last;
     let apart = line.period;

@@ -6,14 +6,14 @@ use Rattle.goings.proofs.going_in.Reads as GoingIn
 use Rattle.goings.proofs.store_going.Reads as StoreGoing
 use Rattle.goings.proofs.ran_by.Reads as RanBy
 
-pub going-then : Settled GoingThen.Post
-going-then κs a x y e f p q = p ∙ sym q
+pub going_then : Settled GoingThen.Post
+going_then κs a x y e f p q = p ∙ sym q
 
-pub going-in : Settled GoingIn.Post
-going-in κs a x y e f p q = p ∙ sym q
+pub going_in_lem : Settled GoingIn.Post
+going_in_lem κs a x y e f p q = p ∙ sym q
 
-pub store-going : SettledLent (λ κs e. e.0.now) StoreGoing.Post
-store-going κs a x y e f p q = (refl, p ∙ sym q)
+pub store_going_lem : SettledLent (λ κs e. e.0.now) StoreGoing.Post
+store_going_lem κs a x y e f p q = (refl, p ∙ sym q)
 
-pub ran-by : SettledLent (λ κs e. e.0.now) RanBy.Post
-ran-by κs a x y e f p q = (refl, p ∙ sym q)
+pub ran_by_lem : SettledLent (λ κs e. e.0.now) RanBy.Post
+ran_by_lem κs a x y e f p q = (refl, p ∙ sym q)

@@ -1,8 +1,8 @@
 // The runs that have the cores, and since when.
 ghost use Rattle.std.specs.Prelude.{◌≡◌, ◌*◌, ◌<◌, ◌≤◌, length};
-ghost use Rattle.units.specs.Limits.{coresLimit};
-ghost use Rattle.goings.specs.Going.{goingOf, ranBy};
-ghost use Rattle.goings.specs.Rows.{goingAt, goingsIn, putGoing};
+ghost use Rattle.units.specs.Limits.{cores_limit};
+ghost use Rattle.goings.specs.Going.{going_of, ran_by};
+ghost use Rattle.goings.specs.Rows.{going_at, goings_in, put_going};
 ghost use Rattle.goings.specs.Inner.{Addable};
 
 use lent_numbers::store_wide;
@@ -19,7 +19,7 @@ pub struct Going {
 impl Going {
     // It goes on where the choice is the same run, and else the choice goes from now on.
     pub fn then(self, task: usize, run: u64, time: Ticks) -> Going
-        ensures { result ≡ goingOf self task run time.0 }
+        ensures { result ≡ going_of self task run time.0 }
     {
         let same_task = self.task == task;
         let same_run = self.run == run;
@@ -36,8 +36,8 @@ impl Going {
 
 // The run that has a core, from 0, in a lent list of three numbers a core.
 pub fn going_in(goings: &[u64], core: usize) -> Going
-    requires { (core < coresLimit) × (length goings.now ≡ 3 * coresLimit) }
-    ensures { result ≡ goingAt goings.now core }
+    requires { (core < cores_limit) × (length goings.now ≡ 3 * cores_limit) }
+    ensures { result ≡ going_at goings.now core }
 {
     let at = 3 * core;
     let task = goings[at] as usize;
@@ -52,8 +52,8 @@ pub fn going_in(goings: &[u64], core: usize) -> Going
 
 // Another run has it.
 pub fn store_going(goings: &mut [u64], core: usize, going: Going)
-    requires { core < coresLimit }
-    ensures { goings.new ≡ putGoing goings.old core going }
+    requires { core < cores_limit }
+    ensures { goings.new ≡ put_going goings.old core going }
 {
     let at = 3 * core;
     let task = going.task as u64;
@@ -66,7 +66,7 @@ pub fn store_going(goings: &mut [u64], core: usize, going: Going)
 // The ticks that each task's oldest run has had, after so many more for the run that has each core.
 pub fn ran_by(had: &mut [u64], goings: &[u64], cores: usize, more: u64)
     requires { Addable had.old goings.now cores more }
-    ensures { had.new ≡ ranBy (goingsIn goings.now) more had.old cores }
+    ensures { had.new ≡ ran_by (goings_in goings.now) more had.old cores }
 {
     let mut core: usize = 0;
     while core < cores {

@@ -8,13 +8,13 @@ use borrow.Author.Tests.{ne_eqb}
 use Rattle.dispatch.specs.declared.Record.{Record}
 use Rattle.listing.specs.declared.listed.Listed.{Listed}
 use Rattle.listing.specs.Listed.{listed_of}
-use Rattle.host.specs.Dispatcher.{listOr}
+use Rattle.host.specs.Dispatcher.{list_or}
 
 module _ (r : Record) (buf : List ℕ) (len : ℤ) {a : Listed} {z : ℤ} (e : a ≡ listed_of r (length buf)) where
-  pub list-taken : z ≡ pos a.length → a.refusal.no ≡ 0 → record { refusal = a.refusal.no; len = z } ≡ listOr r buf len
-  unfolding listOr
-  list-taken s t = rw (s, ← e, t)
+  pub list_taken : z ≡ pos a.length → a.refusal.no ≡ 0 → record { refusal = a.refusal.no; len = z } ≡ list_or r buf len
+  unfolding list_or
+  list_taken s t = rw (s, ← e, t)
 
-  pub list-refused : z ≡ len → (a.refusal.no ≡ 0 → ⊥) → record { refusal = a.refusal.no; len = z } ≡ listOr r buf len
-  unfolding listOr
-  list-refused s n = rw (s, ← e, ne_eqb a.refusal.no 0 n)
+  pub list_refused : z ≡ len → (a.refusal.no ≡ 0 → ⊥) → record { refusal = a.refusal.no; len = z } ≡ list_or r buf len
+  unfolding list_or
+  list_refused s n = rw (s, ← e, ne_eqb a.refusal.no 0 n)

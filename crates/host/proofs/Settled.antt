@@ -4,8 +4,8 @@ use Rattle.lists.specs.Settled.{Settled, SettledLent}
 use Rattle.host.proofs.yagomila_admit.Reads as YagomilaAdmit
 use Rattle.host.proofs.yagomila_listing.Reads as YagomilaListing
 
-pub yagomila-admit : Settled YagomilaAdmit.Post
-yagomila-admit κs a x y e f p q = p ∙ sym q
+pub yagomila_admit_lem : Settled YagomilaAdmit.Post
+yagomila_admit_lem κs a x y e f p q = p ∙ sym q
 
-pub yagomila-listing : SettledLent (λ κs e. e.1.1.0.now) YagomilaListing.Post
-yagomila-listing κs a x y e f p q = (p.0 ∙ sym q.0, p.1 ∙ sym q.1)
+pub yagomila_listing_lem : SettledLent (λ κs e. e.1.1.0.now) YagomilaListing.Post
+yagomila_listing_lem κs a x y e f p q = (p.0 ∙ sym q.0, p.1 ∙ sym q.1)

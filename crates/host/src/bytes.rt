@@ -1,8 +1,8 @@
 // A table's bytes: eight for a task, cost then period, each least byte first.
 ghost use Rattle.std.specs.Prelude.{◌≡◌, ◌*◌, ◌≤◌, length};
-ghost use Rattle.units.specs.Limits.{tasksLimit};
-ghost use Rattle.little_endian.specs.Number.{numbersOf};
-ghost use Rattle.host.specs.Inner.{filled, heldTable};
+ghost use Rattle.units.specs.Limits.{tasks_limit};
+ghost use Rattle.little_endian.specs.Number.{numbers_of};
+ghost use Rattle.host.specs.Inner.{filled, held_table};
 
 use admission::table::no_table;
 use little_endian::number32;
@@ -17,8 +17,8 @@ pub(crate) struct Table {
 
 // The numbers of a table of at most 64 tasks, then zeros.
 fn numbers_of(bytes: &[u8]) -> [u32; 2 * TASKS]
-    requires { length bytes.now ≤ 8 * tasksLimit }
-    ensures { result ≡ filled (numbersOf bytes.now) }
+    requires { length bytes.now ≤ 8 * tasks_limit }
+    ensures { result ≡ filled (numbers_of bytes.now) }
 {
     let n = bytes.len() / 4;
     let mut numbers = [0u32; 2 * TASKS];
@@ -33,7 +33,7 @@ fn numbers_of(bytes: &[u8]) -> [u32; 2 * TASKS]
 
 // A table's numbers; none where it ends inside a number or is none that planning takes, and planning refuses both alike.
 pub(crate) fn table_of(bytes: &[u8]) -> Table
-    ensures { result ≡ heldTable bytes.now }
+    ensures { result ≡ held_table bytes.now }
 {
     let n = bytes.len();
     let out = no_table(n / 4);

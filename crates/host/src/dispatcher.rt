@@ -1,10 +1,10 @@
 // The dispatcher for the host, on a record that it lends: planning, release, finish, look and the listing. Each loads, makes one call by value and stores.
 ghost use Rattle.std.specs.Prelude.{◌≡◌};
-ghost use Rattle.dispatch.specs.Release.{releaseOr};
-ghost use Rattle.dispatch.specs.Finish.{finishOr};
-ghost use Rattle.dispatch.specs.Look.{lookOr};
-ghost use Rattle.listing.specs.Listed.{bufferAfter};
-ghost use Rattle.host.specs.Dispatcher.{startOr, listOr};
+ghost use Rattle.dispatch.specs.Release.{release_or};
+ghost use Rattle.dispatch.specs.Finish.{finish_or};
+ghost use Rattle.dispatch.specs.Look.{look_or};
+ghost use Rattle.listing.specs.Listed.{buffer_after};
+ghost use Rattle.host.specs.Dispatcher.{start_or, list_or};
 
 use crate::bytes::table_of;
 use core_choice::Told;
@@ -24,7 +24,7 @@ pub(crate) struct LentStart {
 
 // The fresh record of a byte table; or the refusal, and the record as it was.
 fn start(held: Record, cores: u32, table: &[u8]) -> LentStart
-    ensures { result ≡ startOr held cores table.now }
+    ensures { result ≡ start_or held cores table.now }
 {
     let read = table_of(table);
     let numbers = read.numbers;
@@ -45,7 +45,7 @@ fn start(held: Record, cores: u32, table: &[u8]) -> LentStart
 // Plans a byte table: 0 and the fresh record, or the refusal.
 #[unsafe(no_mangle)]
 pub extern "C" fn yagomila_start(held: &mut Record, cores: u32, table: &[u8]) -> u32
-    ensures { let a = startOr held.old cores table.now in
+    ensures { let a = start_or held.old cores table.now in
         (result ≡ a.refusal) × (held.new ≡ a.next) }
 {
     let after = start(*held, cores, table);
@@ -55,7 +55,7 @@ pub extern "C" fn yagomila_start(held: &mut Record, cores: u32, table: &[u8]) ->
 
 // A release at a time in plain ticks, as C hands it.
 fn release(held: Record, task: usize, time: u64, core: usize, deadline: Ticks) -> Released
-    ensures { result ≡ releaseOr held task time core deadline }
+    ensures { result ≡ release_or held task time core deadline }
 {
     held.release_or(task, Ticks(time), core, deadline)
 }
@@ -69,7 +69,7 @@ pub extern "C" fn yagomila_release(
     core: &mut usize,
     deadline: &mut Ticks,
 ) -> u32
-    ensures { let a = releaseOr held.old task time core.old deadline.old in
+    ensures { let a = release_or held.old task time core.old deadline.old in
         (result ≡ a.refusal) × (held.new ≡ a.next) × (core.new ≡ a.core) × (deadline.new ≡ a.deadline) }
 {
     let after = release(*held, task, time, *core, *deadline);
@@ -81,7 +81,7 @@ pub extern "C" fn yagomila_release(
 
 // A finish, so too.
 fn finish(held: Record, task: usize, time: u64, late: i64) -> Finished
-    ensures { result ≡ finishOr held task time late }
+    ensures { result ≡ finish_or held task time late }
 {
     held.finish_or(task, Ticks(time), late)
 }
@@ -89,7 +89,7 @@ fn finish(held: Record, task: usize, time: u64, late: i64) -> Finished
 // A finish: 0 with the time less the deadline, or the refusal.
 #[unsafe(no_mangle)]
 pub extern "C" fn yagomila_finish(held: &mut Record, task: usize, time: u64, late: &mut i64) -> u32
-    ensures { let a = finishOr held.old task time late.old in
+    ensures { let a = finish_or held.old task time late.old in
         (result ≡ a.refusal) × (held.new ≡ a.next) × (late.new ≡ a.late) }
 {
     let after = finish(*held, task, time, *late);
@@ -100,7 +100,7 @@ pub extern "C" fn yagomila_finish(held: &mut Record, task: usize, time: u64, lat
 
 // A look, so too.
 fn look(held: Record, core: usize, time: u64, choice: Told) -> LookedTold
-    ensures { result ≡ lookOr held core time choice }
+    ensures { result ≡ look_or held core time choice }
 {
     held.look_or(core, Ticks(time), choice)
 }
@@ -108,7 +108,7 @@ fn look(held: Record, core: usize, time: u64, choice: Told) -> LookedTold
 // A look: 0 with the core's choice, or the refusal.
 #[unsafe(no_mangle)]
 pub extern "C" fn yagomila_look(held: &mut Record, core: usize, time: u64, choice: &mut Told) -> u32
-    ensures { let a = lookOr held.old core time choice.old in
+    ensures { let a = look_or held.old core time choice.old in
         (result ≡ a.refusal) × (held.new ≡ a.next) × (choice.new ≡ a.told) }
 {
     let after = look(*held, core, time, *choice);
@@ -126,7 +126,7 @@ pub(crate) struct LentList {
 
 // The listing of the record's plan in the buffer, and its length; or the refusal, and both as they were.
 fn list_into(held: Record, buf: &mut [u8], len: i64) -> LentList
-    ensures { (result ≡ listOr held buf.old len) × (buf.new ≡ bufferAfter held buf.old) }
+    ensures { (result ≡ list_or held buf.old len) × (buf.new ≡ buffer_after held buf.old) }
 {
     let listed = list(held, buf);
     let refused = listed.refusal;
@@ -143,8 +143,8 @@ fn list_into(held: Record, buf: &mut [u8], len: i64) -> LentList
 // The record's listing: 0 with its length in bytes, or the refusal.
 #[unsafe(no_mangle)]
 pub extern "C" fn yagomila_list(held: &Record, buf: &mut [u8], len: &mut i64) -> u32
-    ensures { let a = listOr held.now buf.old len.old in
-        (result ≡ a.refusal) × (buf.new ≡ bufferAfter held.now buf.old) × (len.new ≡ a.len) }
+    ensures { let a = list_or held.now buf.old len.old in
+        (result ≡ a.refusal) × (buf.new ≡ buffer_after held.now buf.old) × (len.new ≡ a.len) }
 {
     let after = list_into(*held, buf, *len);
     *len = after.len;

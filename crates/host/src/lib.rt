@@ -1,6 +1,6 @@
 // What the box's host, which is written in C, calls. Nothing is kept between calls.
 ghost use Rattle.std.specs.Prelude.{◌≡◌, ◌<◌, ◌^◌, length};
-ghost use Rattle.host.specs.Host.{admitOf, negative as negativeOf, answered, hostListed, hostAfter};
+ghost use Rattle.host.specs.Host.{admit_of, negative as negativeOf, answered, host_listed, host_after};
 
 use crate::bytes::table_of;
 use admission::admit::admit;
@@ -30,7 +30,7 @@ fn answer_of(listed: Listed) -> i64
 // The admission number of a byte table: 0 or a refusal.
 #[unsafe(no_mangle)]
 pub extern "C" fn yagomila_admit(cores: u32, table: &[u8]) -> u32
-    ensures { result ≡ admitOf cores table.now }
+    ensures { result ≡ admit_of cores table.now }
 {
     let held = table_of(table);
     let numbers = held.numbers;
@@ -43,8 +43,8 @@ pub extern "C" fn yagomila_admit(cores: u32, table: &[u8]) -> u32
 // The listing's length, or the refusal number made negative; on a refusal no byte changes.
 #[unsafe(no_mangle)]
 pub extern "C" fn yagomila_listing(cores: u32, table: &[u8], buf: &mut [u8]) -> i64
-    ensures value { result ≡ hostListed cores table.now (length buf.old) }
-    ensures buf_after { buf.new ≡ hostAfter cores table.now buf.old }
+    ensures value { result ≡ host_listed cores table.now (length buf.old) }
+    ensures buf_after { buf.new ≡ host_after cores table.now buf.old }
 {
     let held = table_of(table);
     let numbers = held.numbers;

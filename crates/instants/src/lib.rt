@@ -1,9 +1,9 @@
 // The choices of all cores at an instant, in one scan of the tasks, and how long they last.
 ghost use Rattle.std.specs.Prelude.{◌≡◌, ◌*◌, ◌≤◌, length};
-ghost use Rattle.front_rows.specs.Rows.{frontsIn};
-ghost use Rattle.units.specs.Limits.{coresLimit, tasksLimit};
+ghost use Rattle.front_rows.specs.Rows.{fronts_in};
+ghost use Rattle.units.specs.Limits.{cores_limit, tasks_limit};
 ghost use Rattle.units.specs.Units.{ticks};
-ghost use Rattle.instants.specs.Seen.{better, seenOf, next_of, leastLeft};
+ghost use Rattle.instants.specs.Seen.{better, seen_of, next_of, least_left};
 
 use front_rows::front_in;
 use fronts::Front;
@@ -56,9 +56,9 @@ pub struct Instant {
 
 // One scan of the tasks for all cores.
 pub fn scan(fronts: &[u64], had: &[u64], count: usize, time: Ticks, until: Ticks) -> Instant
-    requires { (count ≤ tasksLimit) × (length fronts.now ≡ 7 * tasksLimit) × (length had.now ≡ tasksLimit) }
-    ensures seen_value { result.seen ≡ seenOf (frontsIn fronts.now) had.now time.0 count }
-    ensures next_value { result.next ≡ ticks (next_of (frontsIn fronts.now) time.0 until.0 count) }
+    requires { (count ≤ tasks_limit) × (length fronts.now ≡ 7 * tasks_limit) × (length had.now ≡ tasks_limit) }
+    ensures seen_value { result.seen ≡ seen_of (fronts_in fronts.now) had.now time.0 count }
+    ensures next_value { result.next ≡ ticks (next_of (fronts_in fronts.now) time.0 until.0 count) }
 {
     let mut seen = [Seen::IDLE; CORES];
     let mut next = until;
@@ -82,8 +82,8 @@ pub fn scan(fronts: &[u64], had: &[u64], count: usize, time: Ticks, until: Ticks
 
 // The least that a choice still has to run, or less where that is given.
 pub fn least_left(seen: [Seen; CORES], cores: usize, most: u64) -> u64
-    requires { cores ≤ coresLimit }
-    ensures { result ≡ leastLeft seen most cores }
+    requires { cores ≤ cores_limit }
+    ensures { result ≡ least_left seen most cores }
 {
     let mut least = most;
     let mut k: usize = 0;

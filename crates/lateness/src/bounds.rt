@@ -1,10 +1,10 @@
 // The bounds, by rising first core.
 ghost use Rattle.std.specs.Prelude.{ℕ, ◌+◌, ◌≤◌, ◌<◌, ◌≡◌, length, get_or};
-ghost use Rattle.units.specs.Limits.{coresLimit, periodLimit};
+ghost use Rattle.units.specs.Limits.{cores_limit, period_limit};
 ghost use Rattle.lists.specs.Lists.{most};
 ghost use Rattle.planning.specs.Kept.{PlanKept};
-ghost use Rattle.lateness.specs.Lateness.{reaches as reachesOf, fixedLate, latesOf};
-ghost use Rattle.lateness.specs.Inner.{MoversOf, pushBy, reachBy, pairLate, lateAt, EachLate, MoverInRange, PairInRange, BoundsReady, reachLimit, lateLimit};
+ghost use Rattle.lateness.specs.Lateness.{reaches as reachesOf, fixed_late, lates_of};
+ghost use Rattle.lateness.specs.Inner.{MoversOf, push_by, reach_by, pair_late, late_at, EachLate, MoverInRange, PairInRange, BoundsReady, reach_limit, late_limit};
 
 use crate::movers::{Mover, Movers, mover_on, with_line};
 use arith::ceiling::ceil_div;
@@ -15,7 +15,7 @@ use units::limits::{CORES, TASKS};
 
 // What stands at a core, 0 where there is no such core.
 fn at(numbers: &[u64; CORES], p: usize) -> u64
-    requires { length numbers.now ≡ coresLimit }
+    requires { length numbers.now ≡ cores_limit }
     ensures { result ≡ get_or numbers.now p 0 }
 {
     if p < CORES { numbers[p] } else { 0 }
@@ -23,8 +23,8 @@ fn at(numbers: &[u64; CORES], p: usize) -> u64
 
 // s × (D + 2T) of a mover, from the reaches by first core.
 fn push(reaches: &[u64; CORES], mover: Mover) -> u64
-    requires { (length reaches.now ≡ coresLimit) × MoverInRange reaches.now mover }
-    ensures { result ≡ pushBy reaches.now mover }
+    requires { (length reaches.now ≡ cores_limit) × MoverInRange reaches.now mover }
+    ensures { result ≡ push_by reaches.now mover }
 {
     let reach = at(reaches, mover.first);
     mover.share.0 as u64 * (reach + mover.period.0 as u64)
@@ -32,8 +32,8 @@ fn push(reaches: &[u64; CORES], mover: Mover) -> u64
 
 // The reach of a core's lower mover, (s × (D + 2T) + L × (2C' + C)) / (L − s) rounded up, with the upper mover's s, D, T and C'.
 fn reach_on(common: u32, reaches: &[u64; CORES], upper: Mover, lower: Mover) -> u64
-    requires { (length reaches.now ≡ coresLimit) × PairInRange common reaches.now upper lower }
-    ensures { result ≡ reachBy common reaches.now upper lower }
+    requires { (length reaches.now ≡ cores_limit) × PairInRange common reaches.now upper lower }
+    ensures { result ≡ reach_by common reaches.now upper lower }
 {
     let l = common as u64;
     let own = l * (2 * upper.cost.0 as u64 + lower.cost.0 as u64);
@@ -42,8 +42,8 @@ fn reach_on(common: u32, reaches: &[u64; CORES], upper: Mover, lower: Mover) -> 
 
 // The bound of a core's fixed tasks.
 fn fixed_on(common: u32, reaches: &[u64; CORES], upper: Mover, lower: Mover) -> u64
-    requires { (length reaches.now ≡ coresLimit) × PairInRange common reaches.now upper lower }
-    ensures { result ≡ pairLate common reaches.now upper lower }
+    requires { (length reaches.now ≡ cores_limit) × PairInRange common reaches.now upper lower }
+    ensures { result ≡ pair_late common reaches.now upper lower }
 {
     let l = common as u64;
     let own = l * (2 * upper.cost.0 as u64 + 2 * lower.cost.0 as u64);
@@ -56,7 +56,7 @@ fn fixed_on(common: u32, reaches: &[u64; CORES], upper: Mover, lower: Mover) -> 
 // The reach of each of a plan's movers by its first core.
 fn reaches_of(plan: Plan, movers: Movers) -> [u64; CORES]
     requires { (PlanKept plan) × (MoversOf plan.lines movers) }
-    ensures { result ≡ reachesOf plan.common plan.lines coresLimit }
+    ensures { result ≡ reachesOf plan.common plan.lines cores_limit }
 {
     let mut reaches = [0u64; CORES];
     let mut p: usize = 0;
@@ -72,8 +72,8 @@ fn reaches_of(plan: Plan, movers: Movers) -> [u64; CORES]
 
 // The bound of each core's fixed tasks, from the reaches of the plan's movers.
 fn fixed_of(plan: Plan, movers: Movers, reaches: &[u64; CORES]) -> [u64; CORES]
-    requires { (PlanKept plan) × (MoversOf plan.lines movers) × (most reaches.now ≤ reachLimit) × (length reaches.now ≡ coresLimit) }
-    ensures { (p : ℕ) → get_or result p 0 ≡ fixedLate plan.common reaches.now plan.lines p }
+    requires { (PlanKept plan) × (MoversOf plan.lines movers) × (most reaches.now ≤ reach_limit) × (length reaches.now ≡ cores_limit) }
+    ensures { (p : ℕ) → get_or result p 0 ≡ fixed_late plan.common reaches.now plan.lines p }
 {
     let mut bounds = [0u64; CORES];
     let mut p: usize = 0;
@@ -94,9 +94,9 @@ fn late_at(
     reaches: &[u64; CORES],
     fixed: &[u64; CORES],
 ) -> i64
-    requires reaches_len { (length reaches.now ≡ coresLimit) × (length fixed.now ≡ coresLimit) }
-    requires period_le_period_limit { (period ≤ periodLimit) × (get_or reaches.now first 0 ≤ lateLimit) × (get_or fixed.now first 0 ≤ lateLimit) }
-    ensures { result ≡ lateAt reaches.now fixed.now moves period first }
+    requires reaches_len { (length reaches.now ≡ cores_limit) × (length fixed.now ≡ cores_limit) }
+    requires period_le_period_limit { (period ≤ period_limit) × (get_or reaches.now first 0 ≤ late_limit) × (get_or fixed.now first 0 ≤ late_limit) }
+    ensures { result ≡ late_at reaches.now fixed.now moves period first }
 {
     if moves {
         return at(reaches, first) as i64 - period as i64;
@@ -131,7 +131,7 @@ fn lates_of(
 // The bound of each task, in ticks. The tasks' lines are read once; what follows works on numbers, and past the tasks it finds 0.
 pub fn bounds_of(plan: Plan) -> [i64; TASKS]
     requires { PlanKept plan }
-    ensures { result ≡ latesOf plan }
+    ensures { result ≡ lates_of plan }
 {
     let mut upper = [Mover::NONE; CORES];
     let mut lower = [Mover::NONE; CORES];

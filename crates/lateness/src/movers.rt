@@ -1,7 +1,7 @@
 // The movers of each core.
 ghost use Rattle.std.specs.Prelude.{◌≡◌, ◌<◌};
 ghost use Rattle.lists.specs.Lists.{parts};
-ghost use Rattle.task_shares.specs.Movers.{firstCore, upper};
+ghost use Rattle.task_shares.specs.Movers.{first_core, upper};
 ghost use Rattle.planning.specs.Plan.{row_of};
 ghost use Rattle.lateness.specs.Inner.{mover, InFront};
 
@@ -52,7 +52,7 @@ pub(crate) fn mover_on(share: Share, line: Line, first: usize) -> Mover
 
 // The upper movers with one line more in front, which moves.
 pub(crate) fn with_line(above: [Mover; CORES], line: Line, first: usize) -> [Mover; CORES]
-    requires { (1 < parts (row_of line)) × (first ≡ firstCore (row_of line)) }
+    requires { (1 < parts (row_of line)) × (first ≡ first_core (row_of line)) }
     ensures { InFront (λ p. upper p (row_of line)) line above result }
 {
     let shares = line.shares;

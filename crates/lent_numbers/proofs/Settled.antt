@@ -7,5 +7,5 @@ use Rattle.lent_numbers.proofs.store_wide.Reads as StoreWide
 pub store : SettledLent (λ κs e. e.0.now) Store.Post
 store κs a x y e f p q = (refl, p ∙ sym q)
 
-pub store-wide : SettledLent (λ κs e. e.0.now) StoreWide.Post
-store-wide κs a x y e f p q = (refl, p ∙ sym q)
+pub store_wide_lem : SettledLent (λ κs e. e.0.now) StoreWide.Post
+store_wide_lem κs a x y e f p q = (refl, p ∙ sym q)

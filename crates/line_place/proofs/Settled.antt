@@ -4,8 +4,8 @@ use Rattle.lists.specs.Settled.{Settled}
 use Rattle.line_place.proofs.line_place.Reads as LinePlace
 use Rattle.line_place.proofs.line_starts.Reads as LineStarts
 
-pub line-place : Settled LinePlace.Post
-line-place κs a x y e f p q = p.0 ∙ sym q.0
+pub line_place_lem : Settled LinePlace.Post
+line_place_lem κs a x y e f p q = p.0 ∙ sym q.0
 
-pub line-starts : Settled LineStarts.Post
-line-starts κs a x y e f p q = p ∙ sym q
+pub line_starts_lem : Settled LineStarts.Post
+line_starts_lem κs a x y e f p q = p ∙ sym q

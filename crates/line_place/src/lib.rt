@@ -1,6 +1,6 @@
 // Looking for the first line of a text that starts with a word.
 ghost use Rattle.std.specs.Prelude.{◌≡◌, ◌<◌, ◌≤◌, length};
-ghost use Rattle.line_place.specs.Place.{lineStarts, line_here, linePlace};
+ghost use Rattle.line_place.specs.Place.{line_starts, line_here, line_place};
 
 use scanning::word::{Word, read_word};
 use writing::NEWLINE;
@@ -8,7 +8,7 @@ use writing::NEWLINE;
 // Whether a line starts at a place.
 pub fn line_starts(text: &[u8], at: usize) -> bool
     requires { at < length text.now }
-    ensures { result ≡ lineStarts text.now at }
+    ensures { result ≡ line_starts text.now at }
 {
     if at == 0 {
         return true;
@@ -33,7 +33,7 @@ fn line_here(text: &[u8], at: usize, word: &[u8]) -> bool
 
 // Where the first line that starts with a word stands, and the text's end if there is none.
 pub fn line_place(text: &[u8], word: &[u8]) -> usize
-    ensures value { result ≡ linePlace word.now text.now }
+    ensures value { result ≡ line_place word.now text.now }
     ensures upper_bound { result ≤ length text.now }
 {
     let mut at = 0;

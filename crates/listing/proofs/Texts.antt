@@ -14,108 +14,108 @@ use lib.Seq.{drop-cons}
 use Rattle.units.specs.declared.share.Share.{Share}
 use Rattle.units.specs.Units.{share, nums}
 use Rattle.units.proofs.Units.{nums_at}
-use Rattle.lists.specs.Lists.{parts, firstPart, bit}
+use Rattle.lists.specs.Lists.{parts, first_part, bit}
 use Rattle.lists.proofs.Tests.{by_cases}
-use Rattle.lists.proofs.Lists.{parts-cons, parts-len}
+use Rattle.lists.proofs.Lists.{parts_cons, parts_len}
 use Rattle.writing.specs.Ascii.{ascii}
 use Rattle.planning.specs.declared.Line.{Line}
-use Rattle.planning.specs.Plan.{noLine}
+use Rattle.planning.specs.Plan.{no_line}
 use Rattle.writing.specs.Field.{field}
-use Rattle.listing.specs.Listing.{shareText, sharesText, rowText, taskText, tasksText}
+use Rattle.listing.specs.Listing.{share_text, shares_text, row_text, task_text, tasks_text}
 
 -- no share, no text
-pub share-none : (p s : ℕ) → s ≡ 0 → [] ≡ shareText p s
-share-none p s e = rw e
+pub share_none : (p s : ℕ) → s ≡ 0 → [] ≡ share_text p s
+share_none p s e = rw e
 
 -- the text of a positive share
-pub share-some : (p s : ℕ) → (s ≡ 0 → ⊥) → field " " p ++ field ":" s ≡ shareText p s
-share-some p s h = rw (ne_eqb s 0 h)
+pub share_some : (p s : ℕ) → (s ≡ 0 → ⊥) → field " " p ++ field ":" s ≡ share_text p s
+share_some p s h = rw (ne_eqb s 0 h)
 
 -- the shares of one core more
-pub shares-more : (p : ℕ) (ss : List Share) (k : ℕ) →
-    sharesText p (nums (take k ss)) ++ shareText (p + k) (get_or ss k (share 0)).0 ≡ sharesText p (nums (take (suc k) ss))
-shares-more p [] zero = refl
-shares-more p [] (suc k) = refl
-shares-more p (s ∷ ss) zero = rw (add-zero p) (sym (append-nil (shareText p s.0)))
-shares-more p (s ∷ ss) (suc k) =
-    append_assoc (shareText p s.0) (sharesText (suc p) (nums (take k ss))) (shareText (p + suc k) (get_or ss k (share 0)).0)
-    ∙ ap (λ (t : List ℕ). shareText p s.0 ++ t)
-    (ap (λ (m : ℕ). sharesText (suc p) (nums (take k ss)) ++ shareText m (get_or ss k (share 0)).0) (omega arith) ∙ shares-more (suc p) ss k)
+pub shares_more : (p : ℕ) (ss : List Share) (k : ℕ) →
+    shares_text p (nums (take k ss)) ++ share_text (p + k) (get_or ss k (share 0)).0 ≡ shares_text p (nums (take (suc k) ss))
+shares_more p [] zero = refl
+shares_more p [] (suc k) = refl
+shares_more p (s ∷ ss) zero = rw (add-zero p) (sym (append-nil (share_text p s.0)))
+shares_more p (s ∷ ss) (suc k) =
+    append_assoc (share_text p s.0) (shares_text (suc p) (nums (take k ss))) (share_text (p + suc k) (get_or ss k (share 0)).0)
+    ∙ ap (λ (t : List ℕ). share_text p s.0 ++ t)
+    (ap (λ (m : ℕ). shares_text (suc p) (nums (take k ss)) ++ share_text m (get_or ss k (share 0)).0) (omega arith) ∙ shares_more (suc p) ss k)
 
 -- the same from core 1 on
-pub cores-more : (ss : List Share) (k : ℕ) →
-    sharesText 1 (nums (take k ss)) ++ shareText (k + 1) (get_or ss k (share 0)).0 ≡ sharesText 1 (nums (take (k + 1) ss))
-cores-more ss k =
-    ap (λ (m : ℕ). sharesText 1 (nums (take k ss)) ++ shareText m (get_or ss k (share 0)).0) (omega arith)
-    ∙ shares-more 1 ss k
-    ∙ ap (λ (m : ℕ). sharesText 1 (nums (take m ss))) (sym (add-one k))
+pub cores_more : (ss : List Share) (k : ℕ) →
+    shares_text 1 (nums (take k ss)) ++ share_text (k + 1) (get_or ss k (share 0)).0 ≡ shares_text 1 (nums (take (k + 1) ss))
+cores_more ss k =
+    ap (λ (m : ℕ). shares_text 1 (nums (take k ss)) ++ share_text m (get_or ss k (share 0)).0) (omega arith)
+    ∙ shares_more 1 ss k
+    ∙ ap (λ (m : ℕ). shares_text 1 (nums (take m ss))) (sym (add-one k))
 
 -- before the first part there is no text
-pub first-text : (q : ℕ) (ss : List Share) → [] ≡ sharesText q (nums (take (firstPart (nums ss)) ss))
-first-text q [] = refl
-first-text q (s ∷ ss) = by_cases (eqb s.0 0) (λ t. rw t (rw t (first-text (suc q) ss))) (λ t. rw t)
+pub first_text_lem : (q : ℕ) (ss : List Share) → [] ≡ shares_text q (nums (take (first_part (nums ss)) ss))
+first_text_lem q [] = refl
+first_text_lem q (s ∷ ss) = by_cases (eqb s.0 0) (λ t. rw t (rw t (first_text_lem (suc q) ss))) (λ t. rw t)
 
 -- and no other part
-pub first-left : (row : List ℕ) → parts row ≡ parts (drop (firstPart row) row)
-first-left [] = refl
-first-left (x ∷ row) =
+pub first_left : (row : List ℕ) → parts row ≡ parts (drop (first_part row) row)
+first_left [] = refl
+first_left (x ∷ row) =
     by_cases (eqb x 0)
-    (λ t. rw t (first-left row))
-    (λ t. ap (λ (b : Bool). parts (drop (cond b (suc (firstPart row)) 0) (x ∷ row))) (sym t))
+    (λ t. rw t (first_left row))
+    (λ t. ap (λ (b : Bool). parts (drop (cond b (suc (first_part row)) 0) (x ∷ row))) (sym t))
 
 -- it is one of the cores, or past the last
-pub first-in : (row : List ℕ) → firstPart row ≤ length row
-first-in [] = omega arith
-first-in (x ∷ row) = by_cases (eqb x 0) (λ t. rw t (omega (arith, first-in row))) (λ t. rw t (omega arith))
+pub first_in : (row : List ℕ) → first_part row ≤ length row
+first_in [] = omega arith
+first_in (x ∷ row) = by_cases (eqb x 0) (λ t. rw t (omega (arith, first_in row))) (λ t. rw t (omega arith))
 
 -- with no part left there is no text left
-none-text : (q : ℕ) (row : List ℕ) → parts row ≡ 0 → [] ≡ sharesText q row
-none-text q [] e = refl
-none-text q (x ∷ row) e =
-    by_cases (eqb x 0) (λ t. rw t (none-text (suc q) row (rw t at e))) (λ t. absurd (omega (arith, rw t at e)))
+none_text : (q : ℕ) (row : List ℕ) → parts row ≡ 0 → [] ≡ shares_text q row
+none_text q [] e = refl
+none_text q (x ∷ row) e =
+    by_cases (eqb x 0) (λ t. rw t (none_text (suc q) row (rw t at e))) (λ t. absurd (omega (arith, rw t at e)))
 
-done-from : (q : ℕ) (ss : List Share) (k : ℕ) → parts (drop k (nums ss)) ≡ 0 → sharesText q (nums (take k ss)) ≡ sharesText q (nums ss)
-done-from q [] zero e = refl
-done-from q [] (suc k) e = refl
-done-from q (s ∷ ss) zero e = none-text q (nums (s ∷ ss)) e
-done-from q (s ∷ ss) (suc k) e = ap (λ (t : List ℕ). shareText q s.0 ++ t) (done-from (suc q) ss k e)
+done_from : (q : ℕ) (ss : List Share) (k : ℕ) → parts (drop k (nums ss)) ≡ 0 → shares_text q (nums (take k ss)) ≡ shares_text q (nums ss)
+done_from q [] zero e = refl
+done_from q [] (suc k) e = refl
+done_from q (s ∷ ss) zero e = none_text q (nums (s ∷ ss)) e
+done_from q (s ∷ ss) (suc k) e = ap (λ (t : List ℕ). share_text q s.0 ++ t) (done_from (suc q) ss k e)
 
-pub shares-done : (ss : List Share) (k : ℕ) → parts (drop k (nums ss)) ≡ 0 → sharesText 1 (nums (take k ss)) ≡ sharesText 1 (nums ss)
-shares-done = done-from 1
+pub shares_done : (ss : List Share) (k : ℕ) → parts (drop k (nums ss)) ≡ 0 → shares_text 1 (nums (take k ss)) ≡ shares_text 1 (nums ss)
+shares_done = done_from 1
 
 -- with one left there is a core left
-pub part-there : (ss : List Share) (k : ℕ) → 0 < parts (drop k (nums ss)) → k < length ss
-part-there ss k h =
+pub part_there : (ss : List Share) (k : ℕ) → 0 < parts (drop k (nums ss)) → k < length ss
+part_there ss k h =
     let row : List ℕ = nums ss in
-    omega (arith, parts-len (drop k row), length-drop k row, length-map ss (λ (s : Share). s.0))
+    omega (arith, parts_len (drop k row), length-drop k row, length-map ss (λ (s : Share). s.0))
 
 module _ (ss : List Share) (k : ℕ) (h : k < length ss) where
   -- what is left from core k on
-  part-next : parts (drop k (nums ss)) ≡ bit (ltb 0 (get_or ss k (share 0)).0) + parts (drop (k + 1) (nums ss))
-  part-next =
+  part_next : parts (drop k (nums ss)) ≡ bit (ltb 0 (get_or ss k (share 0)).0) + parts (drop (k + 1) (nums ss))
+  part_next =
       rw (add-one k, drop-cons (nums ss) k 0 (omega (arith, h, length-map ss (λ (s : Share). s.0))), nums_at ss k)
-      (parts-cons (get_or ss k (share 0)).0 (drop (suc k) (nums ss)))
+      (parts_cons (get_or ss k (share 0)).0 (drop (suc k) (nums ss)))
 
   -- a positive share is one of them
-  pub part-less : 0 < (get_or ss k (share 0)).0 → parts (drop k (nums ss)) ≡ parts (drop (k + 1) (nums ss)) + 1
-  part-less e = omega (arith, part-next, ap bit (lt-ltb 0 (get_or ss k (share 0)).0 e))
+  pub part_less : 0 < (get_or ss k (share 0)).0 → parts (drop k (nums ss)) ≡ parts (drop (k + 1) (nums ss)) + 1
+  part_less e = omega (arith, part_next, ap bit (lt-ltb 0 (get_or ss k (share 0)).0 e))
 
   -- no share is none
   pub part_same : (get_or ss k (share 0)).0 ≤ 0 → parts (drop k (nums ss)) ≡ parts (drop (k + 1) (nums ss))
-  part_same e = omega (arith, part-next, ap bit (le-ltb 0 (get_or ss k (share 0)).0 e))
+  part_same e = omega (arith, part_next, ap bit (le-ltb 0 (get_or ss k (share 0)).0 e))
 
 -- the row of a task that moves
-pub row-moves : (row : List ℕ) → 1 < parts row → ascii " moves" ++ sharesText 1 row ≡ rowText row
-unfolding rowText
-row-moves row h = rw (lt-ltb 1 (parts row) h)
+pub row_moves : (row : List ℕ) → 1 < parts row → ascii " moves" ++ shares_text 1 row ≡ row_text row
+unfolding row_text
+row_moves row h = rw (lt-ltb 1 (parts row) h)
 
 -- the row of a task that does not
-pub row-fixed : (row : List ℕ) → parts row ≤ 1 → ascii " fixed" ++ sharesText 1 row ≡ rowText row
-unfolding rowText
-row-fixed row h = rw (le-ltb 1 (parts row) h)
+pub row_fixed : (row : List ℕ) → parts row ≤ 1 → ascii " fixed" ++ shares_text 1 row ≡ row_text row
+unfolding row_text
+row_fixed row h = rw (le-ltb 1 (parts row) h)
 
 -- the lines of one task more
-pub tasks-more : (ls : List Line) (lates : List ℤ) (n : ℕ) →
-    tasksText ls lates n ++ taskText (n + 1) (get_or ls n noLine) (get_or lates n (pos 0)) ≡ tasksText ls lates (n + 1)
-unfolding tasksText
-tasks-more ls lates n = rw (add-one n) refl
+pub tasks_more : (ls : List Line) (lates : List ℤ) (n : ℕ) →
+    tasks_text ls lates n ++ task_text (n + 1) (get_or ls n no_line) (get_or lates n (pos 0)) ≡ tasks_text ls lates (n + 1)
+unfolding tasks_text
+tasks_more ls lates n = rw (add-one n) refl

@@ -2,46 +2,46 @@
 use Rattle.std.specs.Prelude.{ℕ, cond, List, ◌++◌, leb, eqb, length, drop}
 use Rattle.planning.specs.declared.Plan.{Plan}
 use Rattle.dispatch.specs.declared.Record.{Record}
-use Rattle.dispatch.specs.Sound.{soundOf}
-use Rattle.listing.specs.Listing.{listingText}
+use Rattle.dispatch.specs.Sound.{sound_of}
+use Rattle.listing.specs.Listing.{listing_text}
 use Rattle.listing.specs.declared.listed.Listed.{Listed}
-use Rattle.units.specs.Refusals.{refusal, taken, bufferNo, unsoundNo}
+use Rattle.units.specs.Refusals.{refusal, taken, buffer_no, unsound_no}
 use Rattle.units.specs.declared.refusal.Refusal.{Refusal}
-use Rattle.admission.specs.Admission.{planRefusal}
+use Rattle.admission.specs.Admission.{plan_refusal}
 use Rattle.planning.specs.Plan.{plan_of}
 
 -- bytes that hold the listing of any sound plan
-abbrev pub listingLimit : ℕ
-listingLimit = 15960
+abbrev pub listing_limit : ℕ
+listing_limit = 15960
 
 -- a refusal and no listing
 abbrev pub unlisted : Refusal → Listed
 unlisted r = record { refusal = r; length = 0 }
 
 -- a listing of so many bytes
-abbrev pub listedWhole : ℕ → Listed
-listedWhole n = record { refusal = taken; length = n }
+abbrev pub listed_whole : ℕ → Listed
+listed_whole n = record { refusal = taken; length = n }
 
 -- a plan's listing in a buffer of so many bytes: refusal 14, or the listing's length
-unfoldable pub planListed : Plan → ℕ → Listed
-planListed pl room = cond (leb (length (listingText pl)) room) (listedWhole (length (listingText pl))) (unlisted (refusal bufferNo 0))
+unfoldable pub plan_listed : Plan → ℕ → Listed
+plan_listed pl room = cond (leb (length (listing_text pl)) room) (listed_whole (length (listing_text pl))) (unlisted (refusal buffer_no 0))
 
 -- the buffer after it: the listing and then what it was, or all as it was
-unfoldable pub planAfter : Plan → List ℕ → List ℕ
-planAfter pl buf = cond (leb (length (listingText pl)) (length buf)) (listingText pl ++ drop (length (listingText pl)) buf) buf
+unfoldable pub plan_after : Plan → List ℕ → List ℕ
+plan_after pl buf = cond (leb (length (listing_text pl)) (length buf)) (listing_text pl ++ drop (length (listing_text pl)) buf) buf
 
 -- a record's listing: refusal 15 where it is not sound, else its plan's
 unfoldable pub listed_of : Record → ℕ → Listed
-listed_of r room = cond (soundOf r) (planListed r.plan room) (unlisted (refusal unsoundNo 0))
+listed_of r room = cond (sound_of r) (plan_listed r.plan room) (unlisted (refusal unsound_no 0))
 
 -- the buffer after it: as it was where the record is not sound
-unfoldable pub bufferAfter : Record → List ℕ → List ℕ
-bufferAfter r buf = cond (soundOf r) (planAfter r.plan buf) buf
+unfoldable pub buffer_after : Record → List ℕ → List ℕ
+buffer_after r buf = cond (sound_of r) (plan_after r.plan buf) buf
 
 -- a table's listing: planning's refusals, then its plan's
-unfoldable pub tableListed : ℕ → List ℕ → ℕ → Listed
-tableListed m xs room = cond (eqb (planRefusal m xs).no 0) (planListed (plan_of m xs).plan room) (unlisted (planRefusal m xs))
+unfoldable pub table_listed : ℕ → List ℕ → ℕ → Listed
+table_listed m xs room = cond (eqb (plan_refusal m xs).no 0) (plan_listed (plan_of m xs).plan room) (unlisted (plan_refusal m xs))
 
 -- the buffer after it: as it was where planning refuses
-unfoldable pub tableAfter : ℕ → List ℕ → List ℕ → List ℕ
-tableAfter m xs buf = cond (eqb (planRefusal m xs).no 0) (planAfter (plan_of m xs).plan buf) buf
+unfoldable pub table_after : ℕ → List ℕ → List ℕ → List ℕ
+table_after m xs buf = cond (eqb (plan_refusal m xs).no 0) (plan_after (plan_of m xs).plan buf) buf

@@ -1,8 +1,8 @@
 // The calls for a listing: of a record, and of a table.
 ghost use Rattle.std.specs.Prelude.{true, ◌≡◌, length};
-ghost use Rattle.soundness.specs.Plan.{planSound};
+ghost use Rattle.soundness.specs.Plan.{plan_sound};
 ghost use Rattle.units.specs.Refusals.{refusal as refusalOf};
-ghost use Rattle.listing.specs.Listed.{unlisted as unlistedBy, planListed, planAfter, tableListed, tableAfter, listed_of, bufferAfter};
+ghost use Rattle.listing.specs.Listed.{unlisted as unlistedBy, plan_listed, plan_after, table_listed, table_after, listed_of, buffer_after};
 
 use crate::writers::put_plan;
 use dispatch::Record;
@@ -32,9 +32,9 @@ fn unlisted(no: u32) -> Listed
 
 // A sound plan's listing. Where the buffer may be too short, a first run on one of one byte finds the length.
 pub fn list_plan(plan: Plan, buf: &mut [u8]) -> Listed
-    requires { planSound plan ≡ true }
-    ensures value { result ≡ planListed plan (length buf.old) }
-    ensures buf_after { buf.new ≡ planAfter plan buf.old }
+    requires { plan_sound plan ≡ true }
+    ensures value { result ≡ plan_listed plan (length buf.old) }
+    ensures buf_after { buf.new ≡ plan_after plan buf.old }
 {
     let lates = bounds_of(plan);
     if LISTING <= buf.len() {
@@ -59,7 +59,7 @@ pub fn list_plan(plan: Plan, buf: &mut [u8]) -> Listed
 // The listing of a record's plan in a lent buffer, or refusal 15 or 14 and no byte changed.
 pub fn list(from: Record, buf: &mut [u8]) -> Listed
     ensures value { result ≡ listed_of from (length buf.old) }
-    ensures buf_after { buf.new ≡ bufferAfter from buf.old }
+    ensures buf_after { buf.new ≡ buffer_after from buf.old }
 {
     if !from.sound() {
         return unlisted(Refusal::UNSOUND);
@@ -70,8 +70,8 @@ pub fn list(from: Record, buf: &mut [u8]) -> Listed
 
 // The listing of a table's plan, for the program and the host; or planning's refusal or 14, and no byte changed.
 pub fn list_table(cores: u32, table: &[u32], buf: &mut [u8]) -> Listed
-    ensures value { result ≡ tableListed cores table.now (length buf.old) }
-    ensures buf_after { buf.new ≡ tableAfter cores table.now buf.old }
+    ensures value { result ≡ table_listed cores table.now (length buf.old) }
+    ensures buf_after { buf.new ≡ table_after cores table.now buf.old }
 {
     let planned = plan_of(cores, table);
     let refusal = planned.refusal;

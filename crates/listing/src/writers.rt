@@ -1,12 +1,12 @@
 // Writers of the listing's pieces. Each stores as much as fits and answers the index after its text.
 ghost use Rattle.std.specs.Prelude.{◌≡◌, ◌+◌, ◌≤◌};
-ghost use Rattle.units.specs.Limits.{tasksLimit};
+ghost use Rattle.units.specs.Limits.{tasks_limit};
 ghost use Rattle.units.specs.Units.{nums};
 ghost use Rattle.lists.specs.Lists.{parts as parts_of};
-ghost use Rattle.writing.specs.Inner.{placeLimit};
+ghost use Rattle.writing.specs.Inner.{place_limit};
 ghost use Rattle.writing.specs.Wrote.{Wrote};
-ghost use Rattle.lateness.specs.Lateness.{latesOf};
-ghost use Rattle.listing.specs.Listing.{shareText, sharesText, headText, rowText, lateText, taskText, firstText, listingText};
+ghost use Rattle.lateness.specs.Lateness.{lates_of};
+ghost use Rattle.listing.specs.Listing.{share_text, shares_text, head_text, row_text, late_text, task_text, first_text, listing_text};
 
 use planning::{Line, Plan};
 use task_shares::rows::{first_core, parts_of};
@@ -17,8 +17,8 @@ use writing::{NEWLINE, put_byte, put_field, put_signed, put_text};
 
 // A core's share, if it is positive.
 fn put_share(buf: &mut [u8], at: usize, core: usize, share: Share) -> usize
-    requires { at + 50 ≤ placeLimit }
-    ensures wrote { Wrote buf.old at (shareText core share.0) buf.new result }
+    requires { at + 50 ≤ place_limit }
+    ensures wrote { Wrote buf.old at (share_text core share.0) buf.new result }
     ensures upper_bound { result ≤ at + 50 }
 {
     if share.0 == 0 {
@@ -30,8 +30,8 @@ fn put_share(buf: &mut [u8], at: usize, core: usize, share: Share) -> usize
 
 // The positive shares of a row, of which there are so many: before the first of them and past the last no core is looked at.
 fn put_shares(buf: &mut [u8], at: usize, shares: [Share; CORES], parts: usize) -> usize
-    requires { (at + 800 ≤ placeLimit) × (parts ≡ parts_of (nums shares)) }
-    ensures wrote { Wrote buf.old at (sharesText 1 (nums shares)) buf.new result }
+    requires { (at + 800 ≤ place_limit) × (parts ≡ parts_of (nums shares)) }
+    ensures wrote { Wrote buf.old at (shares_text 1 (nums shares)) buf.new result }
     ensures upper_bound { result ≤ at + 800 }
 {
     let mut next = at;
@@ -50,8 +50,8 @@ fn put_shares(buf: &mut [u8], at: usize, shares: [Share; CORES], parts: usize) -
 
 // Whether a task moves, and its shares.
 fn put_row(buf: &mut [u8], at: usize, shares: [Share; CORES]) -> usize
-    requires { at + 806 ≤ placeLimit }
-    ensures wrote { Wrote buf.old at (rowText (nums shares)) buf.new result }
+    requires { at + 806 ≤ place_limit }
+    ensures wrote { Wrote buf.old at (row_text (nums shares)) buf.new result }
     ensures upper_bound { result ≤ at + 806 }
 {
     let parts = parts_of(shares);
@@ -66,8 +66,8 @@ fn put_row(buf: &mut [u8], at: usize, shares: [Share; CORES]) -> usize
 
 // A task's number, cost, period and weight.
 fn put_head(buf: &mut [u8], at: usize, i: usize, line: Line) -> usize
-    requires { at + 107 ≤ placeLimit }
-    ensures wrote { Wrote buf.old at (headText i line) buf.new result }
+    requires { at + 107 ≤ place_limit }
+    ensures wrote { Wrote buf.old at (head_text i line) buf.new result }
     ensures upper_bound { result ≤ at + 107 }
 {
     let a = put_field(buf, at, b"task ", i as u64);
@@ -78,8 +78,8 @@ fn put_head(buf: &mut [u8], at: usize, i: usize, line: Line) -> usize
 
 // A task's bound, and the end of its line.
 fn put_late(buf: &mut [u8], at: usize, late: i64) -> usize
-    requires { at + 28 ≤ placeLimit }
-    ensures wrote { Wrote buf.old at (lateText late) buf.new result }
+    requires { at + 28 ≤ place_limit }
+    ensures wrote { Wrote buf.old at (late_text late) buf.new result }
     ensures upper_bound { result ≤ at + 28 }
 {
     let a = put_text(buf, at, b" late ");
@@ -89,8 +89,8 @@ fn put_late(buf: &mut [u8], at: usize, late: i64) -> usize
 
 // A task's line.
 fn put_task(buf: &mut [u8], at: usize, i: usize, line: Line, late: i64) -> usize
-    requires { at + 1000 ≤ placeLimit }
-    ensures wrote { Wrote buf.old at (taskText i line late) buf.new result }
+    requires { at + 1000 ≤ place_limit }
+    ensures wrote { Wrote buf.old at (task_text i line late) buf.new result }
     ensures upper_bound { result ≤ at + 1000 }
 {
     let shares = line.shares;
@@ -101,7 +101,7 @@ fn put_task(buf: &mut [u8], at: usize, i: usize, line: Line, late: i64) -> usize
 
 // The first line: the cores and the common period.
 fn put_first(buf: &mut [u8], cores: u32, common: u32) -> usize
-    ensures wrote { Wrote buf.old 0 (firstText cores common) buf.new result }
+    ensures wrote { Wrote buf.old 0 (first_text cores common) buf.new result }
     ensures upper_bound { result ≤ 1000 }
 {
     let a = put_field(buf, 0, b"cores ", cores as u64);
@@ -111,8 +111,8 @@ fn put_first(buf: &mut [u8], cores: u32, common: u32) -> usize
 
 // The whole listing, with the bounds of its tasks. The loop is here: a plan that is handed on is copied.
 pub(crate) fn put_plan(buf: &mut [u8], plan: Plan, lates: [i64; TASKS]) -> usize
-    requires { (plan.count ≤ tasksLimit) × (lates ≡ latesOf plan) }
-    ensures wrote { Wrote buf.old 0 (listingText plan) buf.new result }
+    requires { (plan.count ≤ tasks_limit) × (lates ≡ lates_of plan) }
+    ensures wrote { Wrote buf.old 0 (listing_text plan) buf.new result }
     ensures upper_bound { result ≤ 100000 }
 {
     let mut next = put_first(buf, plan.cores, plan.common);

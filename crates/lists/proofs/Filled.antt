@@ -28,8 +28,8 @@ all_but d P xs i v h e k q =
 
 module _ {A : Type 0} (d : A) (n : ℕ) (f : ℕ → A) (old : List A) where
   -- none is done
-  pub stored-none : (a : ℕ) → a ≤ n → length old ≡ n → Stored d n f old a a old
-  stored-none a h e = record {
+  pub stored_none : (a : ℕ) → a ≤ n → length old ≡ n → Stored d n f old a a old
+  stored_none a h e = record {
     ordered = omega arith;
     within = h;
     long = e;
@@ -39,12 +39,12 @@ module _ {A : Type 0} (d : A) (n : ℕ) (f : ℕ → A) (old : List A) where
   }
 
   -- those from a on are right as they were
-  pub stored-from : (a : ℕ) → a ≤ n → length old ≡ n → ((q : ℕ) → a ≤ q → q < n → get_or old q d ≡ f q) → Stored d n f old a n old
-  stored-from a h e k = record { ordered = h; within = omega arith; long = e; done = k; below = λ q l. refl; above = λ q l. refl }
+  pub stored_from : (a : ℕ) → a ≤ n → length old ≡ n → ((q : ℕ) → a ≤ q → q < n → get_or old q d ≡ f q) → Stored d n f old a n old
+  stored_from a h e k = record { ordered = h; within = omega arith; long = e; done = k; below = λ q l. refl; above = λ q l. refl }
 
   -- the next one is stored
-  pub store-next : (a b : ℕ) (now : List A) (v : A) → Stored d n f old a b now → b < n → v ≡ f b → Stored d n f old a (b + 1) (set now b v)
-  store-next a b now v k h e =
+  pub store_next : (a b : ℕ) (now : List A) (v : A) → Stored d n f old a b now → b < n → v ≡ f b → Stored d n f old a (b + 1) (set now b v)
+  store_next a b now v k h e =
       let l : b < length now = omega (arith, k.long) in
       let o = k.ordered in
       record {
@@ -57,8 +57,8 @@ module _ {A : Type 0} (d : A) (n : ℕ) (f : ℕ → A) (old : List A) where
       }
 
   -- the next one is right as it was
-  pub store-skip : (a b : ℕ) (now : List A) → Stored d n f old a b now → b < n → get_or old b d ≡ f b → Stored d n f old a (b + 1) now
-  store-skip a b now k h e =
+  pub store_skip : (a b : ℕ) (now : List A) → Stored d n f old a b now → b < n → get_or old b d ≡ f b → Stored d n f old a (b + 1) now
+  store_skip a b now k h e =
       let o = k.ordered in
       record {
         ordered = omega arith;
@@ -73,8 +73,8 @@ module _ {A : Type 0} (d : A) (n : ℕ) (f : ℕ → A) (old : List A) where
       }
 
   -- the one before is stored
-  pub store-before : (i b : ℕ) (now : List A) (v : A) → Stored d n f old (i + 1) b now → v ≡ f i → Stored d n f old i b (set now i v)
-  store-before i b now v k e =
+  pub store_before : (i b : ℕ) (now : List A) (v : A) → Stored d n f old (i + 1) b now → v ≡ f i → Stored d n f old i b (set now i v)
+  store_before i b now v k e =
       let o = k.ordered in
       let w = k.within in
       let l : i < length now = omega (arith, k.long) in
@@ -94,21 +94,21 @@ pub record Filled {A : Type 0} (d : A) (n : ℕ) (whole now todo : List A) (k : 
 
 module _ {A : Type 0} (d : A) where
   -- the default is no entry
-  default-at : (m q : ℕ) → get_or (replicate m d) q d ≡ d
-  default-at zero q = refl
-  default-at (suc m) zero = refl
-  default-at (suc m) (suc q) = default-at m q
+  default_at : (m q : ℕ) → get_or (replicate m d) q d ≡ d
+  default_at zero q = refl
+  default_at (suc m) zero = refl
+  default_at (suc m) (suc q) = default_at m q
 
   -- and none past the end
-  pub default-after : (xs : List A) (m q : ℕ) → get_or (xs ++ replicate m d) q d ≡ get_or xs q d
-  default-after [] m q = default-at m q
-  default-after (x ∷ xs) m zero = refl
-  default-after (x ∷ xs) m (suc q) = default-after xs m q
+  pub default_after : (xs : List A) (m q : ℕ) → get_or (xs ++ replicate m d) q d ≡ get_or xs q d
+  default_after [] m q = default_at m q
+  default_after (x ∷ xs) m zero = refl
+  default_after (x ∷ xs) m (suc q) = default_after xs m q
 
   module _ (n : ℕ) (whole : List A) where
     -- at first nothing stands
     pub empty : Filled d n whole (replicate n d) whole 0
-    empty = record { stored = stored-none d n (λ q. get_or whole q d) (replicate n d) 0 (omega arith) (length-replicate n d); left = refl }
+    empty = record { stored = stored_none d n (λ q. get_or whole q d) (replicate n d) 0 (omega arith) (length-replicate n d); left = refl }
 
     module _ (now todo : List A) (k : ℕ) where
       -- one entry more
@@ -117,7 +117,7 @@ module _ {A : Type 0} (d : A) where
           let same : get_or whole k d ∷ drop (suc k) whole ≡ x ∷ todo =
           sym (drop-cons whole k d (omega (arith, length-drop k whole, ap length f.left))) ∙ f.left in
           record {
-            stored = store-next d n (λ q. get_or whole q d) (replicate n d) 0 k now x f.stored h (sym (ap (λ ys. get_or ys 0 d) same));
+            stored = store_next d n (λ q. get_or whole q d) (replicate n d) 0 k now x f.stored h (sym (ap (λ ys. get_or ys 0 d) same));
             left = rw (add-one k) (ap (drop 1) same);
           }
 
@@ -132,5 +132,5 @@ module _ {A : Type 0} (d : A) where
           (λ q l.
           by_cases (ltb q k)
           (λ t. s.done q (omega arith) (ltb-true q k t))
-          (λ t. let past = ltb-false q k t in s.above q past ∙ default-at n q ∙ sym (get_or-eq_default whole d {n = q} (omega arith)))
-          ∙ sym (default-after whole m q))
+          (λ t. let past = ltb-false q k t in s.above q past ∙ default_at n q ∙ sym (get_or-eq_default whole d {n = q} (omega arith)))
+          ∙ sym (default_after whole m q))

@@ -7,9 +7,9 @@ use lib.ListN.{length, get_or, drop, length-drop}
 use lib.Seq.{drop-cons}
 
 -- from pair k on: its two numbers, then the pairs after it
-pub pair-drop : (xs : List ℕ) (k : ℕ) → 2 * k + 1 < length xs
+pub pair_drop : (xs : List ℕ) (k : ℕ) → 2 * k + 1 < length xs
     → drop (2 * k) xs ≡ get_or xs (2 * k) 0 ∷ get_or xs (2 * k + 1) 0 ∷ drop (2 * (k + 1)) xs
-pair-drop xs k h =
+pair_drop xs k h =
     let e : suc (2 * k) ≡ 2 * k + 1 = omega arith in
     let g : suc (2 * k + 1) ≡ 2 * (k + 1) = omega arith in
     drop-cons xs (2 * k) 0 (omega arith)

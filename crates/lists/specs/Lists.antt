@@ -26,9 +26,9 @@ parts [] = 0
 parts (x ∷ xs) = cond (eqb x 0) (parts xs) (suc (parts xs))
 
 -- where the first positive number stands; the length if there is none
-abbrev pub firstPart : List ℕ → ℕ
-firstPart [] = 0
-firstPart (x ∷ xs) = cond (eqb x 0) (suc (firstPart xs)) 0
+abbrev pub first_part : List ℕ → ℕ
+first_part [] = 0
+first_part (x ∷ xs) = cond (eqb x 0) (suc (first_part xs)) 0
 
 -- where the first entry stands that passes a test; the length if none does
 abbrev pub seek : {A : Type 0} → (A → Bool) → List A → ℕ

@@ -1,6 +1,6 @@
 // Numbers in bytes, least byte first, at a place of a lent slice. A byte past its end counts as 0.
 ghost use Rattle.std.specs.Prelude.{◌≡◌, ◌<◌, get_or};
-ghost use Rattle.little_endian.specs.Number.{number, number32At, farthest};
+ghost use Rattle.little_endian.specs.Number.{number, number32_at, farthest};
 
 // The byte at a place.
 fn byte_at(bytes: &[u8], at: usize) -> u8
@@ -19,7 +19,7 @@ fn number_of(a: u8, b: u8, c: u8, d: u8) -> u32
 // The number of 32 bits at a place.
 pub fn number32(bytes: &[u8], at: usize) -> u32
     requires { at < farthest }
-    ensures { result ≡ number32At bytes.now at }
+    ensures { result ≡ number32_at bytes.now at }
 {
     let a = byte_at(bytes, at);
     let b = byte_at(bytes, at + 1);

@@ -13,11 +13,11 @@ use Rattle.lists.proofs.Tests.{by_cases}
 use Rattle.writing.specs.Ascii.{newline}
 use Rattle.scanning.specs.Word.{starts, word_at}
 use Rattle.scanning.specs.declared.word.Word.TheVariants.{After, NoWord}
-use Rattle.scanning.proofs.Words.{word-here, word_none}
-use Rattle.names.specs.Name.{letters, name_at, nameEnd}
+use Rattle.scanning.proofs.Words.{word_here, word_none}
+use Rattle.names.specs.Name.{letters, name_at, name_end}
 use Rattle.name_list.specs.Names.{same, among, twice, names_of}
-use Rattle.names.proofs.Written.{Small, letters-written, letters-small, name-read}
-use Rattle.name_list.proofs.Lines.{namesHere, names-done, names-none, names-later}
+use Rattle.names.proofs.Written.{Small, letters_written, letters_small, name_read}
+use Rattle.name_list.proofs.Lines.{names_here, names_done, names_none, names_later}
 
 -- which of two numbers is named first does not matter
 turned : (a b : ℕ) → eqb a b ≡ eqb b a
@@ -32,82 +32,82 @@ same_line (a ∷ n) (b ∷ m) rest h k =
     rw (turned a b) (ap (λ (z : Bool). eqb b a && z) (same_line n m rest (λ i p. h (suc i) (omega arith)) (λ i p. k (suc i) (omega arith))))
 
 -- a line that is a name
-module _ (s : List ℕ) (at : ℕ) {next : ℕ} (p : next ≡ nameEnd s newline at) (q : next ≡ 0 → ⊥) where
+module _ (s : List ℕ) (at : ℕ) {next : ℕ} (p : next ≡ name_end s newline at) (q : next ≡ 0 → ⊥) where
   -- the part of the text from the one place to the other is the name with its newline
-  line-is : take (next - at) (drop at s) ≡ name_at s at ++ newline ∷ []
-  line-is =
+  line_is : take (next - at) (drop at s) ≡ name_at s at ++ newline ∷ []
+  line_is =
       let n = name_at s at in
-      let r = name-read s newline at (omega arith) (λ z. q (p ∙ z)) in
+      let r = name_read s newline at (omega arith) (λ z. q (p ∙ z)) in
       let k : length (n ++ newline ∷ []) ≡ next - at = omega (arith, p, r.1, length-append n (newline ∷ [])) in
-      ap (take (next - at)) (r.3 ∙ sym (append_assoc n (newline ∷ []) (drop (nameEnd s newline at) s)))
-      ∙ take_at (n ++ newline ∷ []) (drop (nameEnd s newline at) s) (next - at) k
+      ap (take (next - at)) (r.3 ∙ sym (append_assoc n (newline ∷ []) (drop (name_end s newline at) s)))
+      ∙ take_at (n ++ newline ∷ []) (drop (name_end s newline at) s) (next - at) k
 
   -- and its letters are the name
-  line-name : letters (take (next - at) (drop at s)) ≡ name_at s at
+  line_name : letters (take (next - at) (drop at s)) ≡ name_at s at
   unfolding name_at
-  line-name = ap letters line-is ∙ letters-written (name_at s at) newline [] (letters-small (drop at s)) (inl (omega arith))
+  line_name = ap letters line_is ∙ letters_written (name_at s at) newline [] (letters_small (drop at s)) (inl (omega arith))
 
   -- so it is a line
-  pub line-whole : take (next - at) (drop at s) ≡ letters (take (next - at) (drop at s)) ++ newline ∷ []
-  line-whole = line-is ∙ ap (λ (n : List ℕ). n ++ newline ∷ []) (sym line-name)
+  pub line_whole : take (next - at) (drop at s) ≡ letters (take (next - at) (drop at s)) ++ newline ∷ []
+  line_whole = line_is ∙ ap (λ (n : List ℕ). n ++ newline ∷ []) (sym line_name)
 
 -- while a line's name is looked for among those from a place on: from a later place on it is the same
 pub record Again (s line : List ℕ) (from at : ℕ) : Type 0 where
-  pub same : among (letters line) (namesHere s from) ≡ among (letters line) (namesHere s at)
+  pub same : among (letters line) (names_here s from) ≡ among (letters line) (names_here s at)
 
 -- at first it is the first place
-pub again-first : (s line : List ℕ) (from : ℕ) → Again s line from from
-again-first s line from = record { same = refl }
+pub again_first : (s line : List ℕ) (from : ℕ) → Again s line from from
+again_first s line from = record { same = refl }
 
 module _ (s line : List ℕ) (from at : ℕ) (h : Again s line from at) where
   -- no line is left
-  pub again-done : length s ≤ at → false ≡ among (letters line) (namesHere s from)
-  again-done k = sym (h.same ∙ ap (among (letters line)) (names-done s at k))
+  pub again_done : length s ≤ at → false ≡ among (letters line) (names_here s from)
+  again_done k = sym (h.same ∙ ap (among (letters line)) (names_done s at k))
 
-  module _ {next : ℕ} (k : at < length s) (p : next ≡ nameEnd s newline at) where
+  module _ {next : ℕ} (k : at < length s) (p : next ≡ name_end s newline at) where
     -- the line is no name
-    pub again-none : next ≡ 0 → false ≡ among (letters line) (namesHere s from)
-    again-none q = sym (h.same ∙ ap (among (letters line)) (names-none s at k (sym p ∙ q)))
+    pub again_none : next ≡ 0 → false ≡ among (letters line) (names_here s from)
+    again_none q = sym (h.same ∙ ap (among (letters line)) (names_none s at k (sym p ∙ q)))
 
     module _ (q : next ≡ 0 → ⊥) (whole : line ≡ letters line ++ newline ∷ []) where
       -- the two lines are compared as words
       compared : same (letters line) (name_at s at) ≡ starts line (drop at s)
       compared =
-          let r = name-read s newline at (omega arith) (λ z. q (p ∙ z)) in
-          same_line (letters line) (name_at s at) (drop (nameEnd s newline at) s) (letters-small line) r.0.small
+          let r = name_read s newline at (omega arith) (λ z. q (p ∙ z)) in
+          same_line (letters line) (name_at s at) (drop (name_end s newline at) s) (letters_small line) r.0.small
           ∙ ap₂ starts (sym whole) (sym r.3)
 
       -- it is the name
-      pub again-here : {after : ℕ} → word_at line s at ≡ After after → true ≡ among (letters line) (namesHere s from)
-      again-here w = sym (h.same ∙ ap (among (letters line)) (names-later s at k p q) ∙ rw (compared, (word-here line s at w).0) refl)
+      pub again_here : {after : ℕ} → word_at line s at ≡ After after → true ≡ among (letters line) (names_here s from)
+      again_here w = sym (h.same ∙ ap (among (letters line)) (names_later s at k p q) ∙ rw (compared, (word_here line s at w).0) refl)
 
       -- it is another
-      pub again-later : word_at line s at ≡ NoWord → Again s line from next
-      again-later w = record { same = h.same ∙ ap (among (letters line)) (names-later s at k p q) ∙ rw (compared, word_none line s at w) refl }
+      pub again_later : word_at line s at ≡ NoWord → Again s line from next
+      again_later w = record { same = h.same ∙ ap (among (letters line)) (names_later s at k p q) ∙ rw (compared, word_none line s at w) refl }
 
 -- while a name that stands twice is looked for: from a place on it is the same
 pub record Twice (s : List ℕ) (at : ℕ) : Type 0 where
-  pub same : twice (names_of s) ≡ twice (namesHere s at)
+  pub same : twice (names_of s) ≡ twice (names_here s at)
 
 -- at first it is the first line
-pub twice-first : (s : List ℕ) → Twice s 0
-twice-first s = record { same = refl }
+pub twice_first : (s : List ℕ) → Twice s 0
+twice_first s = record { same = refl }
 
 module _ (s : List ℕ) (at : ℕ) (h : Twice s at) where
   -- no line is left
-  pub twice-done : length s ≤ at → false ≡ twice (names_of s)
-  twice-done k = sym (h.same ∙ ap twice (names-done s at k))
+  pub twice_done : length s ≤ at → false ≡ twice (names_of s)
+  twice_done k = sym (h.same ∙ ap twice (names_done s at k))
 
-  module _ {next : ℕ} (k : at < length s) (p : next ≡ nameEnd s newline at) where
+  module _ {next : ℕ} (k : at < length s) (p : next ≡ name_end s newline at) where
     -- the line is no name
-    pub twice-none : next ≡ 0 → false ≡ twice (names_of s)
-    twice-none q = sym (h.same ∙ ap twice (names-none s at k (sym p ∙ q)))
+    pub twice_none : next ≡ 0 → false ≡ twice (names_of s)
+    twice_none q = sym (h.same ∙ ap twice (names_none s at k (sym p ∙ q)))
 
     module _ (q : next ≡ 0 → ⊥) where
       -- its name stands there again
-      pub twice-here : among (letters (take (next - at) (drop at s))) (namesHere s next) ≡ true → true ≡ twice (names_of s)
-      twice-here e = sym (h.same ∙ ap twice (names-later s at k p q) ∙ rw (rw (line-name s at p q) at e) refl)
+      pub twice_here : among (letters (take (next - at) (drop at s))) (names_here s next) ≡ true → true ≡ twice (names_of s)
+      twice_here e = sym (h.same ∙ ap twice (names_later s at k p q) ∙ rw (rw (line_name s at p q) at e) refl)
 
       -- it does not
-      pub twice-later : among (letters (take (next - at) (drop at s))) (namesHere s next) ≡ false → Twice s next
-      twice-later e = record { same = h.same ∙ ap twice (names-later s at k p q) ∙ rw (rw (line-name s at p q) at e) refl }
+      pub twice_later : among (letters (take (next - at) (drop at s))) (names_here s next) ≡ false → Twice s next
+      twice_later e = record { same = h.same ∙ ap twice (names_later s at k p q) ∙ rw (rw (line_name s at p q) at e) refl }

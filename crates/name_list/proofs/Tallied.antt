@@ -7,15 +7,15 @@ use borrow.Author.Tests.{eq-eqb, ne_eqb}
 use lib.ListN.{length}
 use Rattle.writing.specs.Ascii.{newline}
 use Rattle.scanning.proofs.Sought.{Sought, first, later, here, ended}
-use Rattle.names.specs.Name.{nameEnd}
-use Rattle.name_list.specs.Names.{names_of, badName, namesSaid}
+use Rattle.names.specs.Name.{name_end}
+use Rattle.name_list.specs.Names.{names_of, bad_name, names_said}
 use Rattle.name_list.specs.declared.Names.TheVariants.{Count, Unreadable}
-use Rattle.name_list.proofs.Lines.{line-ahead, namesHere, names-done, names-later}
+use Rattle.name_list.proofs.Lines.{line_ahead, names_here, names_done, names_later}
 
 -- while names are counted: so many lines are names, and with those from a place on they are all
 pub record Tallied (s : List ℕ) (at count : ℕ) : Type 0 where
-  pub sought : Sought (nameEnd s newline) (length s) 1 0 (count + 1) at
-  pub all : length (names_of s) ≡ count + length (namesHere s at)
+  pub sought : Sought (name_end s newline) (length s) 1 0 (count + 1) at
+  pub all : length (names_of s) ≡ count + length (names_here s at)
 
 -- a line has a byte at least
 pub ahead : (s : List ℕ) (at count : ℕ) → Tallied s at count → count ≤ at
@@ -27,24 +27,24 @@ none_yet s = record { sought = first _ _ _ _; all = omega arith }
 
 module _ (s : List ℕ) (at count : ℕ) (h : Tallied s at count) where
   -- each line is a name
-  pub said-count : length s ≤ at → Count count ≡ namesSaid s
-  unfolding namesSaid
-  said-count k =
-      let e : count ≡ length (names_of s) = omega (arith, h.all, ap length (names-done s at k)) in
-      rw (eq-eqb (badName s) 0 (ended _ _ _ _ _ _ h.sought k)) (ap Count e)
+  pub said_count : length s ≤ at → Count count ≡ names_said s
+  unfolding names_said
+  said_count k =
+      let e : count ≡ length (names_of s) = omega (arith, h.all, ap length (names_done s at k)) in
+      rw (eq-eqb (bad_name s) 0 (ended _ _ _ _ _ _ h.sought k)) (ap Count e)
 
-  module _ {next : ℕ} (k : at < length s) (p : next ≡ nameEnd s newline at) where
+  module _ {next : ℕ} (k : at < length s) (p : next ≡ name_end s newline at) where
     -- a line is none
-    pub said-unreadable : next ≡ 0 → Unreadable ≡ namesSaid s
-    unfolding namesSaid
-    said-unreadable q =
-        let e : badName s ≡ count + 1 = here _ _ _ _ _ _ h.sought k (sym p ∙ q) in
-        rw (ne_eqb (badName s) 0 (λ z. omega (arith, z, e))) refl
+    pub said_unreadable : next ≡ 0 → Unreadable ≡ names_said s
+    unfolding names_said
+    said_unreadable q =
+        let e : bad_name s ≡ count + 1 = here _ _ _ _ _ _ h.sought k (sym p ∙ q) in
+        rw (ne_eqb (bad_name s) 0 (λ z. omega (arith, z, e))) refl
 
     -- one name more
     pub one_more : (next ≡ 0 → ⊥) → Tallied s next (count + 1)
     one_more q =
         record {
-          sought = later _ _ _ _ _ _ h.sought k (sym p) (line-ahead s at p q);
-          all = omega (arith, h.all, ap length (names-later s at k p q));
+          sought = later _ _ _ _ _ _ h.sought k (sym p) (line_ahead s at p q);
+          all = omega (arith, h.all, ap length (names_later s at k p q));
         }

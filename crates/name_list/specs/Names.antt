@@ -1,15 +1,15 @@
 -- Names as a lent text: a name a line, each ended by a newline.
 use Rattle.std.specs.Prelude.{ℕ, zero, suc, Bool, true, false, cond, ◌&&◌, ◌||◌, List, [], ◌∷◌, ◌++◌, ltb, eqb, length}
 use Rattle.writing.specs.Ascii.{newline}
-use Rattle.scanning.specs.Lines.{unreadableFrom}
-use Rattle.names.specs.Name.{name_at, nameEnd}
+use Rattle.scanning.specs.Lines.{unreadable_from}
+use Rattle.names.specs.Name.{name_at, name_end}
 use Rattle.name_list.specs.declared.Names.{Names}
 use Rattle.name_list.specs.declared.Names.TheVariants.{Count, Unreadable}
 
 -- names as text
-abbrev pub namesText : List (List ℕ) → List ℕ
-namesText [] = []
-namesText (n ∷ ns) = n ++ newline ∷ namesText ns
+abbrev pub names_text : List (List ℕ) → List ℕ
+names_text [] = []
+names_text (n ∷ ns) = n ++ newline ∷ names_text ns
 
 -- two names are the same
 abbrev pub same : List ℕ → List ℕ → Bool
@@ -29,21 +29,21 @@ twice [] = false
 twice (n ∷ ns) = among n ns || twice ns
 
 -- the names of the lines from a place on; f is no less than their number
-unfoldable pub namesFrom : ℕ → List ℕ → ℕ → List (List ℕ)
-namesFrom zero s at = []
-namesFrom (suc f) s at =
+unfoldable pub names_from : ℕ → List ℕ → ℕ → List (List ℕ)
+names_from zero s at = []
+names_from (suc f) s at =
     cond (ltb at (length s))
-    (cond (eqb (nameEnd s newline at) 0) [] (name_at s at ∷ namesFrom f s (nameEnd s newline at)))
+    (cond (eqb (name_end s newline at) 0) [] (name_at s at ∷ names_from f s (name_end s newline at)))
     []
 
 -- all of them
 abbrev pub names_of : List ℕ → List (List ℕ)
-names_of s = namesFrom (length s) s 0
+names_of s = names_from (length s) s 0
 
 -- the first line that is no name, from 1, and 0 if there is none
-abbrev pub badName : List ℕ → ℕ
-badName s = unreadableFrom (nameEnd s newline) (length s) (length s) 1 0
+abbrev pub bad_name : List ℕ → ℕ
+bad_name s = unreadable_from (name_end s newline) (length s) (length s) 1 0
 
 -- how many names there are, if each line is one
-unfoldable pub namesSaid : List ℕ → Names
-namesSaid s = cond (eqb (badName s) 0) (Count (length (names_of s))) Unreadable
+unfoldable pub names_said : List ℕ → Names
+names_said s = cond (eqb (bad_name s) 0) (Count (length (names_of s))) Unreadable

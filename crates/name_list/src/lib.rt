@@ -2,7 +2,7 @@
 ghost use Rattle.std.specs.Prelude.{◌≡◌, [], ◌∷◌, ◌++◌, length};
 ghost use Rattle.writing.specs.Ascii.{newline};
 ghost use Rattle.names.specs.Name.{letters};
-ghost use Rattle.name_list.specs.Names.{among, twice, namesFrom, names_of, namesSaid};
+ghost use Rattle.name_list.specs.Names.{among, twice, names_from, names_of, names_said};
 
 use names::name::name_end;
 use scanning::word::{Word, read_word};
@@ -18,7 +18,7 @@ pub enum Names {
 // Whether the name of a line, which has its newline, is among those of the lines from a place on.
 fn name_again(text: &[u8], line: &[u8], from: usize) -> bool
     requires { line.now ≡ letters line.now ++ newline ∷ [] }
-    ensures { result ≡ among (letters line.now) (namesFrom (length text.now) text.now from) }
+    ensures { result ≡ among (letters line.now) (names_from (length text.now) text.now from) }
 {
     let mut at = from;
     while at < text.len() {
@@ -58,7 +58,7 @@ pub fn name_twice(names: &[u8]) -> bool
 
 // How many names a list has, if each of its lines is one.
 pub fn read_names(names: &[u8]) -> Names
-    ensures { result ≡ namesSaid names.now }
+    ensures { result ≡ names_said names.now }
 {
     let mut at = 0;
     let mut count = 0;

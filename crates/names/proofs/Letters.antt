@@ -11,21 +11,21 @@ use Rattle.lists.proofs.Tests.{by_cases}
 use Rattle.names.specs.Name.{letter, letters, name_at}
 
 -- a text has at least the letters that it starts with
-letters-fit : (l : List ℕ) → length (letters l) ≤ length l
+letters_fit : (l : List ℕ) → length (letters l) ≤ length l
 unfolding letters
-letters-fit [] = omega arith
-letters-fit (b ∷ l) = by_cases (letter b) (λ e. rw e (omega (arith, letters-fit l))) (λ e. rw e (omega arith))
+letters_fit [] = omega arith
+letters_fit (b ∷ l) = by_cases (letter b) (λ e. rw e (omega (arith, letters_fit l))) (λ e. rw e (omega arith))
 
 module _ (s : List ℕ) (at : ℕ) where
   -- no letter stands past the end
-  pub letters-past : length s ≤ at → name_at s at ≡ []
+  pub letters_past : length s ≤ at → name_at s at ≡ []
   unfolding name_at letters
-  letters-past h = rw (drop_of_length-le s h)
+  letters_past h = rw (drop_of_length-le s h)
 
   -- the letters end within the text
-  pub letters-room : length (name_at s at) ≤ length s - at
+  pub letters_room : length (name_at s at) ≤ length s - at
   unfolding name_at
-  letters-room = omega (arith, letters-fit (drop at s), length-drop at s)
+  letters_room = omega (arith, letters_fit (drop at s), length-drop at s)
 
   module _ (inside : at < length s) where
     -- the byte at the place comes first of those from there on
@@ -33,14 +33,14 @@ module _ (s : List ℕ) (at : ℕ) where
     there = drop-cons s at 0 inside ∙ ap (λ (k : ℕ). get_or s at 0 ∷ drop k s) (sym (add-one at))
 
     -- a letter
-    pub letters-more : letter (get_or s at 0) ≡ true → name_at s at ≡ get_or s at 0 ∷ name_at s (at + 1)
+    pub letters_more : letter (get_or s at 0) ≡ true → name_at s at ≡ get_or s at 0 ∷ name_at s (at + 1)
     unfolding name_at letters
-    letters-more e = rw (there, e)
+    letters_more e = rw (there, e)
 
     -- another byte
-    pub letters-none : letter (get_or s at 0) ≡ false → name_at s at ≡ []
+    pub letters_none : letter (get_or s at 0) ≡ false → name_at s at ≡ []
     unfolding name_at letters
-    letters-none e = rw (there, e)
+    letters_none e = rw (there, e)
 
 -- while letters are counted: with those from the next place on they are all
 pub record Counted (s : List ℕ) (at next : ℕ) : Type 0 where
@@ -54,7 +54,7 @@ begun s at = record { ahead = omega arith; same = omega arith }
 module _ (s : List ℕ) (at next : ℕ) (h : Counted s at next) where
   -- one more
   pub more : next < length s → letter (get_or s next 0) ≡ true → Counted s at (next + 1)
-  more k e = record { ahead = omega (arith, h.ahead); same = omega (arith, h.ahead, h.same, ap length (letters-more s next k e)) }
+  more k e = record { ahead = omega (arith, h.ahead); same = omega (arith, h.ahead, h.same, ap length (letters_more s next k e)) }
 
   -- no more
   pub counted : name_at s next ≡ [] → next - at ≡ length (name_at s at)

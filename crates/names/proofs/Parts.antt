@@ -5,24 +5,24 @@ use mathlib.Core.List.{List, ◌∷◌}
 use native.Mathlib.Omega.{arith}
 use lib.ListN.{length, take, drop}
 use lib.Seq.{take_at}
-use Rattle.names.specs.Name.{lettersLimit, name_at, nameEnd}
-use Rattle.names.proofs.Written.{name-read}
+use Rattle.names.specs.Name.{letters_limit, name_at, name_end}
+use Rattle.names.proofs.Written.{name_read}
 
 -- it lies within the text, is the name, and has at most twelve letters
 pub record Parted (s : List ℕ) (at next : ℕ) : Type 0 where
   pub from : at ≤ next - 1
   pub to : next - 1 ≤ length s
   pub is : take (next - 1 - at) (drop at s) ≡ name_at s at
-  pub few : length (take (next - 1 - at) (drop at s)) ≤ lettersLimit
+  pub few : length (take (next - 1 - at) (drop at s)) ≤ letters_limit
   pub ahead : length (take (next - 1 - at) (drop at s)) ≡ next - 1 - at
 
 -- where a name was read
-pub parted : (s : List ℕ) (e at next : ℕ) → 0 < e → next ≡ nameEnd s e at → (next ≡ 0 → ⊥) → Parted s at next
+pub parted : (s : List ℕ) (e at next : ℕ) → 0 < e → next ≡ name_end s e at → (next ≡ 0 → ⊥) → Parted s at next
 parted s e at next p q h =
-    let r = name-read s e at p (λ z. h (q ∙ z)) in
+    let r = name_read s e at p (λ z. h (q ∙ z)) in
     let k : next - 1 - at ≡ length (name_at s at) = omega (arith, q, r.1) in
     let part : take (next - 1 - at) (drop at s) ≡ name_at s at =
-    rw (k, r.3) (take_at (name_at s at) (e ∷ drop (nameEnd s e at) s) (length (name_at s at)) refl) in
+    rw (k, r.3) (take_at (name_at s at) (e ∷ drop (name_end s e at) s) (length (name_at s at)) refl) in
     record {
       from = omega (arith, q, r.1);
       to = omega (arith, q, r.2);

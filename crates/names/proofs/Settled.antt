@@ -3,5 +3,5 @@ use mathlib.Core.Path.{sym, ◌∙◌}
 use Rattle.lists.specs.Settled.{Settled}
 use Rattle.names.proofs.name.name_end.Reads as NameEnd
 
-pub name-end : Settled NameEnd.Post
-name-end κs a x y e f p q = p ∙ sym q
+pub name_end_lem : Settled NameEnd.Post
+name_end_lem κs a x y e f p q = p ∙ sym q

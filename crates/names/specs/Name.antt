@@ -2,8 +2,8 @@
 use Rattle.std.specs.Prelude.{ℕ, ◌+◌, ◌≤◌, ◌<◌, Bool, cond, ◌&&◌, List, [], ◌∷◌, ltb, leb, eqb, length, get_or, drop}
 
 -- letters of a name, at most
-abbrev pub lettersLimit : ℕ
-lettersLimit = 12
+abbrev pub letters_limit : ℕ
+letters_limit = 12
 
 -- small letters alone, 1 to 12 of them
 pub record Name (n : List ℕ) : Type 0 where
@@ -21,17 +21,17 @@ letters [] = []
 letters (b ∷ s) = cond (letter b) (b ∷ letters s) []
 
 -- so many letters are a name
-abbrev pub nameLong : ℕ → Bool
-nameLong k = ltb 0 k && leb k lettersLimit
+abbrev pub name_long : ℕ → Bool
+name_long k = ltb 0 k && leb k letters_limit
 
 -- the name at a place
 unfoldable pub name_at : List ℕ → ℕ → List ℕ
 name_at s at = letters (drop at s)
 
 -- the place after a name of k letters at a place and the byte e that has to end it, 0 where that does not stand there
-unfoldable pub nameBy : List ℕ → ℕ → ℕ → ℕ → ℕ
-nameBy s e at k = cond (nameLong k && eqb (get_or s (at + k) 0) e) (at + k + 1) 0
+unfoldable pub name_by : List ℕ → ℕ → ℕ → ℕ → ℕ
+name_by s e at k = cond (name_long k && eqb (get_or s (at + k) 0) e) (at + k + 1) 0
 
 -- the place after the name at a place and the byte e that has to end it, 0 where no name stands there
-unfoldable pub nameEnd : List ℕ → ℕ → ℕ → ℕ
-nameEnd s e at = nameBy s e at (length (name_at s at))
+unfoldable pub name_end : List ℕ → ℕ → ℕ → ℕ
+name_end s e at = name_by s e at (length (name_at s at))

@@ -1,6 +1,6 @@
 // A name at a place of a text.
 ghost use Rattle.std.specs.Prelude.{◌≡◌, ◌<◌, length};
-ghost use Rattle.names.specs.Name.{name_at, nameEnd};
+ghost use Rattle.names.specs.Name.{name_at, name_end};
 
 // Letters of a name, at most.
 pub const LETTERS: usize = 12;
@@ -24,7 +24,7 @@ fn letters_at(text: &[u8], at: usize) -> usize
 // The place after the name at a place and the byte that has to end it, 0 where no name stands there.
 pub fn name_end(text: &[u8], at: usize, end: u8) -> usize
     requires { 0 < end }
-    ensures { result ≡ nameEnd text.now end at }
+    ensures { result ≡ name_end text.now end at }
 {
     let count = letters_at(text, at);
     if count == 0 {

@@ -2,8 +2,8 @@
 ghost use Rattle.std.specs.Prelude.{◌≤◌, length};
 ghost use Rattle.units.specs.Refusals.{refusal};
 ghost use Rattle.writing.specs.Wrote.{Wrote};
-ghost use Rattle.writing.specs.Refused.{refusalText};
-ghost use Rattle.office_answer.specs.Office.{writtenText, afterWord, officeText};
+ghost use Rattle.writing.specs.Refused.{refusal_text};
+ghost use Rattle.office_answer.specs.Office.{written_text, after_word, office_text};
 
 use line_place::line_place;
 use scanning::line::read_field;
@@ -22,7 +22,7 @@ const BOUND: u64 = 1_000_000_000_000_000;
 
 // The line of a refusal by its number and the line of the text that it names.
 fn put_refused(out: &mut [u8], no: u32, line: usize) -> usize
-    ensures wrote { Wrote out.old 0 (refusalText (refusal no line)) out.new result }
+    ensures wrote { Wrote out.old 0 (refusal_text (refusal no line)) out.new result }
     ensures upper_bound { result ≤ 60 }
 {
     let refusal = Refusal {
@@ -34,7 +34,7 @@ fn put_refused(out: &mut [u8], no: u32, line: usize) -> usize
 
 // A table and its names: the sheet, or the refusal's line.
 fn put_written(out: &mut [u8], cores: u32, table: &[u32], names: &[u8], tick: u32) -> usize
-    ensures wrote { Wrote out.old 0 (writtenText (length out.old) cores table.now names.now tick)
+    ensures wrote { Wrote out.old 0 (written_text (length out.old) cores table.now names.now tick)
         out.new result }
     ensures upper_bound { result ≤ 4096 }
 {
@@ -48,7 +48,7 @@ fn put_written(out: &mut [u8], cores: u32, table: &[u32], names: &[u8], tick: u3
 
 // What follows the word `names ` at a place: the tick length, and the names.
 fn put_named(out: &mut [u8], cores: u32, table: &[u32], text: &[u8], at: usize) -> usize
-    ensures wrote { Wrote out.old 0 (afterWord (length out.old) cores table.now text.now at)
+    ensures wrote { Wrote out.old 0 (after_word (length out.old) cores table.now text.now at)
         out.new result }
     ensures upper_bound { result ≤ 4096 }
 {
@@ -66,7 +66,7 @@ fn put_named(out: &mut [u8], cores: u32, table: &[u32], text: &[u8], at: usize) 
 
 // The program's answer to an input, and its length.
 pub fn answer(text: &[u8], out: &mut [u8]) -> usize
-    ensures wrote { Wrote out.old 0 (officeText (length out.old) text.now) out.new result }
+    ensures wrote { Wrote out.old 0 (office_text (length out.old) text.now) out.new result }
     ensures upper_bound { result ≤ 4096 }
 {
     let place = line_place(text, b"names ");

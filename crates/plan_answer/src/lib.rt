@@ -1,8 +1,8 @@
 // What the program writes for a text: the listing, or the refusal's line.
 ghost use Rattle.std.specs.Prelude.{◌≤◌, length};
 ghost use Rattle.writing.specs.Wrote.{Wrote};
-ghost use Rattle.listing.specs.Listed.{listingLimit};
-ghost use Rattle.plan_answer.specs.Answer.{tableText, answerText};
+ghost use Rattle.listing.specs.Listed.{listing_limit};
+ghost use Rattle.plan_answer.specs.Answer.{table_text, answer_text};
 
 use listing::listed::list_table;
 use table_text::{NUMBERS, Reading, read_text};
@@ -14,8 +14,8 @@ pub const ANSWER: usize = 16_384;
 
 // A table's answer.
 fn put_table(out: &mut [u8], cores: u32, table: &[u32]) -> usize
-    ensures wrote { Wrote out.old 0 (tableText (length out.old) cores table.now) out.new result }
-    ensures upper_bound { result ≤ listingLimit }
+    ensures wrote { Wrote out.old 0 (table_text (length out.old) cores table.now) out.new result }
+    ensures upper_bound { result ≤ listing_limit }
 {
     let listed = list_table(cores, table, out);
     let refusal = listed.refusal;
@@ -27,8 +27,8 @@ fn put_table(out: &mut [u8], cores: u32, table: &[u32]) -> usize
 
 // The program's answer to a text, and its length.
 pub fn answer(text: &[u8], out: &mut [u8]) -> usize
-    ensures wrote { Wrote out.old 0 (answerText (length out.old) text.now) out.new result }
-    ensures upper_bound { result ≤ listingLimit }
+    ensures wrote { Wrote out.old 0 (answer_text (length out.old) text.now) out.new result }
+    ensures upper_bound { result ≤ listing_limit }
 {
     let mut table = [0u32; NUMBERS];
     match read_text(text, &mut table) {

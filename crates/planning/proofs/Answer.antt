@@ -4,56 +4,56 @@ use mathlib.Core.Path.{◌≡◌, sym, ap, ap₂, ◌∙◌}
 use mathlib.Core.List.{List}
 use lib.ListN.{length}
 use borrow.Author.Tests.{eq-eqb, ne_eqb}
-use Rattle.units.specs.Limits.{coresLimit, tasksLimit}
+use Rattle.units.specs.Limits.{cores_limit, tasks_limit}
 use Rattle.units.specs.Units.{nums}
-use Rattle.units.proofs.Units.{nums-units}
+use Rattle.units.proofs.Units.{nums_units}
 use Rattle.arith.specs.Period.{periods, common}
 use Rattle.admission.specs.Weight.{weights, padded}
 use Rattle.units.specs.Refusals.{taken}
-use Rattle.admission.specs.Admission.{planRefusal, refusedWith, takenWith, admissionOf}
+use Rattle.admission.specs.Admission.{plan_refusal, refused_with, taken_with, admission_of}
 use Rattle.admission.specs.declared.admit.Admission.{Admission}
 use Rattle.admission.proofs.Admitting.{passed}
-use Rattle.admission.proofs.Answers.{says-refusal, says-refused, says-taken}
+use Rattle.admission.proofs.Answers.{says_refusal, says_refused_lem, says_taken}
 use Rattle.admission.proofs.Kept.{Kept, kept}
-use Rattle.planning.specs.Plan.{planFor, refusedPlan, takenPlan, plan_of}
+use Rattle.planning.specs.Plan.{plan_for, refused_plan, taken_plan, plan_of}
 
-module _ (m : ℕ) (xs : List ℕ) (a : Admission) (e : a ≡ admissionOf m xs) where
-  number : a.refusal.no ≡ (planRefusal m xs).no
-  number = ap (λ (x : Admission). x.refusal.no) e ∙ says-refusal m xs
+module _ (m : ℕ) (xs : List ℕ) (a : Admission) (e : a ≡ admission_of m xs) where
+  number : a.refusal.no ≡ (plan_refusal m xs).no
+  number = ap (λ (x : Admission). x.refusal.no) e ∙ says_refusal m xs
 
   -- refused
-  pub refused : (a.refusal.no ≡ 0 → ⊥) → refusedPlan a.refusal ≡ plan_of m xs
-  unfolding plan_of refusedWith
+  pub refused : (a.refusal.no ≡ 0 → ⊥) → refused_plan a.refusal ≡ plan_of m xs
+  unfolding plan_of refused_with
   refused n =
-      let z : (planRefusal m xs).no ≡ 0 → ⊥ = λ q. n (number ∙ q) in
-      rw (ne_eqb (planRefusal m xs).no 0 z) (ap refusedPlan (ap (λ (x : Admission). x.refusal) (e ∙ says-refused m xs z)))
+      let z : (plan_refusal m xs).no ≡ 0 → ⊥ = λ q. n (number ∙ q) in
+      rw (ne_eqb (plan_refusal m xs).no 0 z) (ap refused_plan (ap (λ (x : Admission). x.refusal) (e ∙ says_refused_lem m xs z)))
 
   module _ (t : a.refusal.no ≡ 0) where
-    none : (planRefusal m xs).no ≡ 0
+    none : (plan_refusal m xs).no ≡ 0
     none = sym number ∙ t
 
-    answer : a ≡ takenWith (common (periods xs)) (weights (common (periods xs)) xs)
-    answer = e ∙ says-taken m xs none
+    answer : a ≡ taken_with (common (periods xs)) (weights (common (periods xs)) xs)
+    answer = e ∙ says_taken m xs none
 
     -- taken, with no refusal
     pub taken_none : a.refusal ≡ taken
-    unfolding takenWith
+    unfolding taken_with
     taken_none = ap (λ (x : Admission). x.refusal) answer
 
     -- with the plan
-    pub taken-plan : takenPlan (planFor m a.common (nums a.weights) xs) ≡ plan_of m xs
-    unfolding plan_of takenWith
-    taken-plan =
+    pub taken_plan_lem : taken_plan (plan_for m a.common (nums a.weights) xs) ≡ plan_of m xs
+    unfolding plan_of taken_with
+    taken_plan_lem =
         let l : a.common ≡ common (periods xs) = ap (λ (x : Admission). x.common) answer in
         let w : nums a.weights ≡ padded (weights (common (periods xs)) xs) =
-        ap (λ (x : Admission). nums x.weights) answer ∙ nums-units (padded (weights (common (periods xs)) xs)) in
-        rw (eq-eqb (planRefusal m xs).no 0 none) (ap takenPlan (ap₂ (λ (n : ℕ) (ws : List ℕ). planFor m n ws xs) l w))
+        ap (λ (x : Admission). nums x.weights) answer ∙ nums_units (padded (weights (common (periods xs)) xs)) in
+        rw (eq-eqb (plan_refusal m xs).no 0 none) (ap taken_plan (ap₂ (λ (n : ℕ) (ws : List ℕ). plan_for m n ws xs) l w))
 
     -- of few cores and few tasks
-    pub taken-few : (m ≤ coresLimit) × (length xs ≤ 2 * tasksLimit)
-    taken-few = let k : Kept m xs = kept m xs (passed m xs none).0 in (k.cores-few, k.tasks-few)
+    pub taken_few : (m ≤ cores_limit) × (length xs ≤ 2 * tasks_limit)
+    taken_few = let k : Kept m xs = kept m xs (passed m xs none).0 in (k.cores_few, k.tasks_few)
 
 -- a refusal that planning answers is the first that applies
-pub refused-is : (m : ℕ) (xs : List ℕ) → ((planRefusal m xs).no ≡ 0 → ⊥) → (plan_of m xs).refusal ≡ planRefusal m xs
-unfolding plan_of refusedPlan
-refused-is m xs n = rw (ne_eqb (planRefusal m xs).no 0 n)
+pub refused_is : (m : ℕ) (xs : List ℕ) → ((plan_refusal m xs).no ≡ 0 → ⊥) → (plan_of m xs).refusal ≡ plan_refusal m xs
+unfolding plan_of refused_plan
+refused_is m xs n = rw (ne_eqb (plan_refusal m xs).no 0 n)

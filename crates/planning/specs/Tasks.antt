@@ -2,20 +2,20 @@
 use Rattle.std.specs.Prelude.{ℕ, ◌-◌, List, get_or}
 use Rattle.planning.specs.declared.Line.{Line}
 use Rattle.planning.specs.declared.Plan.{Plan}
-use Rattle.planning.specs.Plan.{noLine, row_of}
+use Rattle.planning.specs.Plan.{no_line, row_of}
 
 -- task i's line
-abbrev pub taskLine : Plan → ℕ → Line
-taskLine pl i = get_or pl.lines (i - 1) noLine
+abbrev pub task_line : Plan → ℕ → Line
+task_line pl i = get_or pl.lines (i - 1) no_line
 
 -- its weight
-abbrev pub taskWeight : Plan → ℕ → ℕ
-taskWeight pl i = (taskLine pl i).weight.0
+abbrev pub task_weight : Plan → ℕ → ℕ
+task_weight pl i = (task_line pl i).weight.0
 
 -- its shares
-abbrev pub taskShares : Plan → ℕ → List ℕ
-taskShares pl i = row_of (taskLine pl i)
+abbrev pub task_shares : Plan → ℕ → List ℕ
+task_shares pl i = row_of (task_line pl i)
 
 -- its share on core p
-abbrev pub taskShare : Plan → ℕ → ℕ → ℕ
-taskShare pl i p = get_or (taskShares pl i) (p - 1) 0
+abbrev pub task_share : Plan → ℕ → ℕ → ℕ
+task_share pl i p = get_or (task_shares pl i) (p - 1) 0

@@ -1,9 +1,9 @@
 // Planning: from a core count and a lent table to a plan, or to the first refusal that applies.
 ghost use Rattle.std.specs.Prelude.{◌≡◌, ◌*◌, ◌≤◌, length};
-ghost use Rattle.units.specs.Limits.{coresLimit, tasksLimit};
+ghost use Rattle.units.specs.Limits.{cores_limit, tasks_limit};
 ghost use Rattle.units.specs.Units.{nums};
 ghost use Rattle.assignment.specs.Passes.{rooms, rows_of};
-ghost use Rattle.planning.specs.Plan.{linesOf, paddedLines, emptyPlan, planFor, plan_of};
+ghost use Rattle.planning.specs.Plan.{lines_of, padded_lines, empty_plan, plan_for, plan_of};
 
 use admission::admit::admit;
 use assignment::{Row, shares_of};
@@ -50,7 +50,7 @@ pub struct Planned {
 
 // The room of empty cores: L on each of them, none on the others.
 fn rooms_of(cores: usize, common: u32) -> Row
-    requires { cores ≤ coresLimit }
+    requires { cores ≤ cores_limit }
     ensures { nums result.shares ≡ rooms cores common }
 {
     let mut room = [Share::EMPTY; CORES];
@@ -64,8 +64,8 @@ fn rooms_of(cores: usize, common: u32) -> Row
 
 // The lines of a table, with its weights and shares.
 fn lines_of(table: &[u32], weights: [Share; TASKS], rows: [Row; TASKS]) -> [Line; TASKS]
-    requires { length table.now ≤ 2 * tasksLimit }
-    ensures { result ≡ paddedLines (linesOf table.now (nums weights) (rows_of rows)) }
+    requires { length table.now ≤ 2 * tasks_limit }
+    ensures { result ≡ padded_lines (lines_of table.now (nums weights) (rows_of rows)) }
 {
     let n = table.len() / 2;
     let mut lines = [Line::EMPTY; TASKS];
@@ -89,8 +89,8 @@ fn lines_of(table: &[u32], weights: [Share; TASKS], rows: [Row; TASKS]) -> [Line
 
 // The plan of a table that is taken.
 fn drawn(cores: u32, table: &[u32], common: u32, weights: [Share; TASKS]) -> Plan
-    requires { (cores ≤ coresLimit) × (length table.now ≤ 2 * tasksLimit) }
-    ensures { result ≡ planFor cores common (nums weights) table.now }
+    requires { (cores ≤ cores_limit) × (length table.now ≤ 2 * tasks_limit) }
+    ensures { result ≡ plan_for cores common (nums weights) table.now }
 {
     let m = cores as usize;
     let room = rooms_of(m, common);
@@ -105,7 +105,7 @@ fn drawn(cores: u32, table: &[u32], common: u32, weights: [Share; TASKS]) -> Pla
 }
 
 fn empty_plan() -> Plan
-    ensures { result ≡ emptyPlan }
+    ensures { result ≡ empty_plan }
 {
     Plan {
         cores: 0,

@@ -3,15 +3,15 @@ use Prim.Native.Nat.{ℕ}
 use mathlib.Core.Path.{◌≡◌, refl}
 use Rattle.core_choice.specs.declared.Side.{Side}
 use Rattle.core_choice.specs.declared.Side.TheVariants.{Upper, Lower}
-use Rattle.player.specs.Answers.{chosenText, moverText}
+use Rattle.player.specs.Answers.{chosen_text, mover_text}
 
 module _ (i d : ℕ) {side : Side} where
   -- an upper mover
-  pub upper : side ≡ Upper → chosenText "upper " i d ≡ moverText side i d
-  unfolding moverText
+  pub upper : side ≡ Upper → chosen_text "upper " i d ≡ mover_text side i d
+  unfolding mover_text
   upper e = rw e refl
 
   -- a lower one
-  pub lower : side ≡ Lower → chosenText "lower " i d ≡ moverText side i d
-  unfolding moverText
+  pub lower : side ≡ Lower → chosen_text "lower " i d ≡ mover_text side i d
+  unfolding mover_text
   lower e = rw e refl

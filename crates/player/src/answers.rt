@@ -1,10 +1,10 @@
 // Writing a call's answer.
 ghost use Rattle.std.specs.Prelude.{◌+◌, ◌≤◌, ◌++◌, length};
-ghost use Rattle.writing.specs.Decimal.{decimalOf};
+ghost use Rattle.writing.specs.Decimal.{decimal_of};
 ghost use Rattle.writing.specs.Field.{field};
-ghost use Rattle.writing.specs.Inner.{placeLimit};
+ghost use Rattle.writing.specs.Inner.{place_limit};
 ghost use Rattle.writing.specs.Wrote.{Wrote};
-ghost use Rattle.player.specs.Answers.{moverText, choiceText, answerLine};
+ghost use Rattle.player.specs.Answers.{mover_text, choice_text, answer_line};
 
 use core_choice::{Choice, Side};
 use dispatch::call::Answer;
@@ -14,8 +14,8 @@ use writing::{NEWLINE, put_byte, put_field, put_signed, put_text};
 
 // A chosen task and its deadline, after a word.
 fn put_chosen(buf: &mut [u8], at: usize, word: &[u8], task: usize, deadline: Ticks) -> usize
-    requires { (at + 59 ≤ placeLimit) × (length word.now ≤ 6) }
-    ensures wrote { Wrote buf.old at (word.now ++ decimalOf task ++ field " deadline " deadline.0) buf.new result }
+    requires { (at + 59 ≤ place_limit) × (length word.now ≤ 6) }
+    ensures wrote { Wrote buf.old at (word.now ++ decimal_of task ++ field " deadline " deadline.0) buf.new result }
     ensures upper_bound { result ≤ at + 59 }
 {
     let a = put_field(buf, at, word, task as u64);
@@ -24,8 +24,8 @@ fn put_chosen(buf: &mut [u8], at: usize, word: &[u8], task: usize, deadline: Tic
 
 // A mover's side, its task and deadline.
 fn put_mover(buf: &mut [u8], at: usize, side: Side, task: usize, deadline: Ticks) -> usize
-    requires { at + 59 ≤ placeLimit }
-    ensures wrote { Wrote buf.old at (moverText side task deadline.0) buf.new result }
+    requires { at + 59 ≤ place_limit }
+    ensures wrote { Wrote buf.old at (mover_text side task deadline.0) buf.new result }
     ensures upper_bound { result ≤ at + 59 }
 {
     match side {
@@ -36,8 +36,8 @@ fn put_mover(buf: &mut [u8], at: usize, side: Side, task: usize, deadline: Ticks
 
 // A core's choice.
 fn put_choice(buf: &mut [u8], at: usize, choice: Choice) -> usize
-    requires { at + 59 ≤ placeLimit }
-    ensures wrote { Wrote buf.old at (choiceText choice) buf.new result }
+    requires { at + 59 ≤ place_limit }
+    ensures wrote { Wrote buf.old at (choice_text choice) buf.new result }
     ensures upper_bound { result ≤ at + 59 }
 {
     match choice {
@@ -49,8 +49,8 @@ fn put_choice(buf: &mut [u8], at: usize, choice: Choice) -> usize
 
 // A call's answer, a line.
 pub(crate) fn put_answer(buf: &mut [u8], at: usize, answer: Answer) -> usize
-    requires { at + 60 ≤ placeLimit }
-    ensures wrote { Wrote buf.old at (answerLine answer) buf.new result }
+    requires { at + 60 ≤ place_limit }
+    ensures wrote { Wrote buf.old at (answer_line answer) buf.new result }
     ensures upper_bound { result ≤ at + 60 }
 {
     match answer {

@@ -1,10 +1,10 @@
 // What the player writes for an input.
 ghost use Rattle.std.specs.Prelude.{◌≤◌, length};
-ghost use Rattle.units.specs.Refusals.{refusal, textNo};
+ghost use Rattle.units.specs.Refusals.{refusal, text_no};
 ghost use Rattle.writing.specs.Wrote.{Wrote};
-ghost use Rattle.writing.specs.Refused.{refusalText};
-ghost use Rattle.calls_text.specs.Input.{inputLimit, plays};
-ghost use Rattle.player.specs.Played.{answersLimit, givenText, tablePlayed, playText};
+ghost use Rattle.writing.specs.Refused.{refusal_text};
+ghost use Rattle.calls_text.specs.Input.{input_limit, plays};
+ghost use Rattle.player.specs.Played.{answers_limit, given_text, table_played, play_text};
 
 use crate::played::play_calls;
 use calls_text::INPUT;
@@ -19,7 +19,7 @@ pub const ANSWERS: usize = 460_000;
 
 // Refusal 16, which names a line.
 fn put_unreadable(out: &mut [u8], line: usize) -> usize
-    ensures wrote { Wrote out.old 0 (refusalText (refusal textNo line)) out.new result }
+    ensures wrote { Wrote out.old 0 (refusal_text (refusal text_no line)) out.new result }
     ensures upper_bound { result ≤ 60 }
 {
     put_refusal(
@@ -34,9 +34,9 @@ fn put_unreadable(out: &mut [u8], line: usize) -> usize
 
 // The calls after a table that can be read, whose text ends at a place.
 fn play_table(text: &[u8], place: usize, cores: u32, table: &[u32], out: &mut [u8]) -> usize
-    requires { (length text.now ≤ inputLimit) × (length table.now ≤ 2048) }
-    ensures wrote { Wrote out.old 0 (tablePlayed text.now place cores table.now) out.new result }
-    ensures upper_bound { result ≤ answersLimit }
+    requires { (length text.now ≤ input_limit) × (length table.now ≤ 2048) }
+    ensures wrote { Wrote out.old 0 (table_played text.now place cores table.now) out.new result }
+    ensures upper_bound { result ≤ answers_limit }
 {
     let tasks = table.len() / 2;
     if text.len() <= place {
@@ -52,9 +52,9 @@ fn play_table(text: &[u8], place: usize, cores: u32, table: &[u32], out: &mut [u
 
 // The calls from a place on, if the table is taken.
 fn play_taken(text: &[u8], from: usize, cores: u32, table: &[u32], out: &mut [u8]) -> usize
-    requires { length text.now ≤ inputLimit }
-    ensures wrote { Wrote out.old 0 (givenText text.now (plays cores table.now from)) out.new result }
-    ensures upper_bound { result ≤ answersLimit }
+    requires { length text.now ≤ input_limit }
+    ensures wrote { Wrote out.old 0 (given_text text.now (plays cores table.now from)) out.new result }
+    ensures upper_bound { result ≤ answers_limit }
 {
     let fresh = Record::fresh(cores, table);
     let refusal = fresh.refusal;
@@ -67,8 +67,8 @@ fn play_taken(text: &[u8], from: usize, cores: u32, table: &[u32], out: &mut [u8
 
 // The answers to an input's calls, or its refusal, and their length.
 pub fn play(text: &[u8], out: &mut [u8]) -> usize
-    ensures wrote { Wrote out.old 0 (playText text.now) out.new result }
-    ensures upper_bound { result ≤ answersLimit }
+    ensures wrote { Wrote out.old 0 (play_text text.now) out.new result }
+    ensures upper_bound { result ≤ answers_limit }
 {
     if INPUT < text.len() {
         return put_unreadable(out, 0);

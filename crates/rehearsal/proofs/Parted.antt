@@ -10,54 +10,54 @@ use lib.ListN.{length, get_or}
 use lib.Seq.{get_or-set_same, get_or-set_other}
 use borrow.Author.Tests.{ltb-true, ltb-false, lt-ltb, le-ltb, eqb-true, eqb-false}
 use Rattle.lists.proofs.Tests.{by_cases}
-use Rattle.units.specs.Limits.{tasksLimit}
+use Rattle.units.specs.Limits.{tasks_limit}
 use Rattle.units.specs.Units.{ticks}
 use Rattle.planning.specs.declared.Line.{Line}
-use Rattle.planning.specs.Plan.{noLine}
-use Rattle.task_state.specs.State.{freshState}
-use Rattle.arrivals.specs.Arrivals.{arrivalsIn, arrivalTime}
-use Rattle.run_lengths.specs.Work.{freshWork}
+use Rattle.planning.specs.Plan.{no_line}
+use Rattle.task_state.specs.State.{fresh_state}
+use Rattle.arrivals.specs.Arrivals.{arrivals_in, arrival_time}
+use Rattle.run_lengths.specs.Work.{fresh_work}
 use Rattle.fronts.specs.declared.Front.{Front}
-use Rattle.fronts.specs.Front.{noFront, frontOf}
+use Rattle.fronts.specs.Front.{no_front, front_of}
 use Rattle.fronts.specs.Inner.{Frontable}
-use Rattle.front_rows.specs.Rows.{frontsIn, putFront}
-use Rattle.front_rows.proofs.Rows.{fronts-long, put-long, fronts-put}
-use Rattle.seats.proofs.Fresh.{writtenState, writtenWork}
+use Rattle.front_rows.specs.Rows.{fronts_in, put_front}
+use Rattle.front_rows.proofs.Rows.{fronts_long, put_long, fronts_put}
+use Rattle.seats.proofs.Fresh.{written_state, written_work}
 use Rattle.instants.specs.declared.Seen.{Seen}
-use Rattle.instants.specs.Seen.{leastLeft}
-use Rattle.instants.proofs.Least.{least-whole, least-part}
-use Rattle.rehearsal.specs.Parts.{comingAt, freshFronts, coreAfter}
+use Rattle.instants.specs.Seen.{least_left}
+use Rattle.instants.proofs.Least.{least_whole, least_part}
+use Rattle.rehearsal.specs.Parts.{coming_at, fresh_fronts, core_after}
 
 -- when the next arrival comes: there is one before the stop, it is no earlier, or there is none
 module _ (xs : List ℕ) (k stop : ℕ) where
-  pub comes : k < arrivalsIn xs → arrivalTime xs k < stop → ticks (arrivalTime xs k) ≡ ticks (comingAt xs k stop)
-  unfolding comingAt
-  comes h t = rw (lt-ltb k (arrivalsIn xs) h, lt-ltb (arrivalTime xs k) stop t)
+  pub comes : k < arrivals_in xs → arrival_time xs k < stop → ticks (arrival_time xs k) ≡ ticks (coming_at xs k stop)
+  unfolding coming_at
+  comes h t = rw (lt-ltb k (arrivals_in xs) h, lt-ltb (arrival_time xs k) stop t)
 
-  pub comes-later : k < arrivalsIn xs → stop ≤ arrivalTime xs k → ticks stop ≡ ticks (comingAt xs k stop)
-  unfolding comingAt
-  comes-later h t = rw (lt-ltb k (arrivalsIn xs) h, le-ltb (arrivalTime xs k) stop t)
+  pub comes_later : k < arrivals_in xs → stop ≤ arrival_time xs k → ticks stop ≡ ticks (coming_at xs k stop)
+  unfolding coming_at
+  comes_later h t = rw (lt-ltb k (arrivals_in xs) h, le-ltb (arrival_time xs k) stop t)
 
-  pub comes-none : arrivalsIn xs ≤ k → ticks stop ≡ ticks (comingAt xs k stop)
-  unfolding comingAt
-  comes-none h = rw (le-ltb k (arrivalsIn xs) h)
+  pub comes_none : arrivals_in xs ≤ k → ticks stop ≡ ticks (coming_at xs k stop)
+  unfolding coming_at
+  comes_none h = rw (le-ltb k (arrivals_in xs) h)
 
 -- an arrival before the stop, or the stop, where none is before it
-pub coming-cases : (xs : List ℕ) (k stop : ℕ)
-    → ((k < arrivalsIn xs) × (arrivalTime xs k < stop) × (comingAt xs k stop ≡ arrivalTime xs k))
-    ⊎ ((comingAt xs k stop ≡ stop) × (k < arrivalsIn xs → stop ≤ arrivalTime xs k))
-unfolding comingAt
-coming-cases xs k stop =
-    by_cases (ltb k (arrivalsIn xs))
+pub coming_cases : (xs : List ℕ) (k stop : ℕ)
+    → ((k < arrivals_in xs) × (arrival_time xs k < stop) × (coming_at xs k stop ≡ arrival_time xs k))
+    ⊎ ((coming_at xs k stop ≡ stop) × (k < arrivals_in xs → stop ≤ arrival_time xs k))
+unfolding coming_at
+coming_cases xs k stop =
+    by_cases (ltb k (arrivals_in xs))
     (λ e.
-    by_cases (ltb (arrivalTime xs k) stop)
-    (λ f. inl (ltb-true k (arrivalsIn xs) e, ltb-true (arrivalTime xs k) stop f, rw (e, f)))
-    (λ f. inr (rw (e, f), λ h. ltb-false (arrivalTime xs k) stop f)))
-    (λ e. inr (rw e, λ h. absurd (omega (arith, ltb-false k (arrivalsIn xs) e))))
+    by_cases (ltb (arrival_time xs k) stop)
+    (λ f. inl (ltb-true k (arrivals_in xs) e, ltb-true (arrival_time xs k) stop f, rw (e, f)))
+    (λ f. inr (rw (e, f), λ h. ltb-false (arrival_time xs k) stop f)))
+    (λ e. inr (rw e, λ h. absurd (omega (arith, ltb-false k (arrivals_in xs) e))))
 
 -- a front of a task that has had no run can be asked
-pub fresh-asked : (ln : Line) → Frontable ln writtenState writtenWork
-fresh-asked ln = record {
+pub fresh_asked : (ln : Line) → Frontable ln written_state written_work
+fresh_asked ln = record {
   placed = λ h. absurd (omega arith);
   here = λ h. absurd (omega arith);
   due = λ h. absurd (omega arith);
@@ -65,43 +65,43 @@ fresh-asked ln = record {
 }
 
 -- task n's front, in turn
-abbrev freshAt : List Line → ℕ → Front
-freshAt ls n = frontOf (get_or ls n noLine) freshState freshWork
+abbrev fresh_at : List Line → ℕ → Front
+fresh_at ls n = front_of (get_or ls n no_line) fresh_state fresh_work
 
 module _ (xs : List ℕ) where
   -- one task more
-  pub fresh-more : (ls : List Line) (n : ℕ) {ys : List ℕ} → ys ≡ freshFronts xs ls n → {x : Front} → x ≡ frontOf (get_or ls n noLine) writtenState writtenWork
-      → putFront ys n x ≡ freshFronts xs ls (n + 1)
-  unfolding freshFronts freshState freshWork
-  fresh-more ls n e q = rw (add-one n, ← e, q)
+  pub fresh_more : (ls : List Line) (n : ℕ) {ys : List ℕ} → ys ≡ fresh_fronts xs ls n → {x : Front} → x ≡ front_of (get_or ls n no_line) written_state written_work
+      → put_front ys n x ≡ fresh_fronts xs ls (n + 1)
+  unfolding fresh_fronts fresh_state fresh_work
+  fresh_more ls n e q = rw (add-one n, ← e, q)
 
   -- as many numbers
-  pub fresh-rows : (ls : List Line) (n : ℕ) → length (freshFronts xs ls n) ≡ length xs
-  unfolding freshFronts
-  fresh-rows ls zero = refl
-  fresh-rows ls (suc n) = put-long (freshFronts xs ls n) n (freshAt ls n) ∙ fresh-rows ls n
+  pub fresh_rows : (ls : List Line) (n : ℕ) → length (fresh_fronts xs ls n) ≡ length xs
+  unfolding fresh_fronts
+  fresh_rows ls zero = refl
+  fresh_rows ls (suc n) = put_long (fresh_fronts xs ls n) n (fresh_at ls n) ∙ fresh_rows ls n
 
   -- each of the first n has the front of its line
-  pub fresh-front : length xs ≡ 7 * tasksLimit → (ls : List Line) (n i : ℕ) → i < n → n ≤ tasksLimit
-      → get_or (frontsIn (freshFronts xs ls n)) i noFront ≡ frontOf (get_or ls i noLine) freshState freshWork
-  unfolding freshFronts
-  fresh-front long ls zero i h l = absurd (omega arith)
-  fresh-front long ls (suc n) i h l =
-      let ys = freshFronts xs ls n in
-      let rows = fronts-put ys (fresh-rows ls n ∙ long) n (omega (arith, l)) (freshAt ls n) in
+  pub fresh_front : length xs ≡ 7 * tasks_limit → (ls : List Line) (n i : ℕ) → i < n → n ≤ tasks_limit
+      → get_or (fronts_in (fresh_fronts xs ls n)) i no_front ≡ front_of (get_or ls i no_line) fresh_state fresh_work
+  unfolding fresh_fronts
+  fresh_front long ls zero i h l = absurd (omega arith)
+  fresh_front long ls (suc n) i h l =
+      let ys = fresh_fronts xs ls n in
+      let rows = fronts_put ys (fresh_rows ls n ∙ long) n (omega (arith, l)) (fresh_at ls n) in
       rw rows
       (by_cases (eqb i n)
-      (λ e. rw (eqb-true i n e) (get_or-set_same (frontsIn ys) n (freshAt ls n) noFront (omega (arith, l, fronts-long ys))))
+      (λ e. rw (eqb-true i n e) (get_or-set_same (fronts_in ys) n (fresh_at ls n) no_front (omega (arith, l, fronts_long ys))))
       (λ e.
       let other = eqb-false i n e in
-      get_or-set_other (frontsIn ys) n i (freshAt ls n) noFront other ∙ fresh-front long ls n i (omega (arith, h, other)) (omega (arith, l))))
+      get_or-set_other (fronts_in ys) n i (fresh_at ls n) no_front other ∙ fresh_front long ls n i (omega (arith, h, other)) (omega (arith, l))))
 
 -- a jump of at most v ticks: all of them, where each choice has more left, or to the first that is done
-module _ (ss : List Seen) (v n : ℕ) {m : ℕ} (e : m ≡ leastLeft ss (v + 1) n) where
-  pub jump-whole : v < m → (v ≡ leastLeft ss v n) × (n ≡ coreAfter ss v n)
-  unfolding coreAfter
-  jump-whole l = let k = rw e at l in (sym (least-whole ss v n k), rw (lt-ltb v (leastLeft ss (v + 1) n) k))
+module _ (ss : List Seen) (v n : ℕ) {m : ℕ} (e : m ≡ least_left ss (v + 1) n) where
+  pub jump_whole : v < m → (v ≡ least_left ss v n) × (n ≡ core_after ss v n)
+  unfolding core_after
+  jump_whole l = let k = rw e at l in (sym (least_whole ss v n k), rw (lt-ltb v (least_left ss (v + 1) n) k))
 
-  pub jump-part : m ≤ v → (m ≡ leastLeft ss v n) × (0 ≡ coreAfter ss v n)
-  unfolding coreAfter
-  jump-part l = let k = rw e at l in (e ∙ sym (least-part ss v n k), rw (le-ltb v (leastLeft ss (v + 1) n) k))
+  pub jump_part : m ≤ v → (m ≡ least_left ss v n) × (0 ≡ core_after ss v n)
+  unfolding core_after
+  jump_part l = let k = rw e at l in (e ∙ sym (least_part ss v n k), rw (le-ltb v (least_left ss (v + 1) n) k))

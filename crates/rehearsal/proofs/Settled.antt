@@ -3,5 +3,5 @@ use Rattle.lists.specs.Settled.{SettledLent}
 use Rattle.day_window.proofs.Windows.{settled}
 use Rattle.rehearsal.proofs.ending.write_day.Reads as WriteDay
 
-pub write-day : SettledLent (λ κs e. e.1.1.1.1.0.now) WriteDay.Post
-write-day κs a x y e f p q = settled p.0 q.0
+pub write_day_lem : SettledLent (λ κs e. e.1.1.1.1.0.now) WriteDay.Post
+write_day_lem κs a x y e f p q = settled p.0 q.0

@@ -1,7 +1,7 @@
 // The end of a rehearsal: what is said at the stop.
 ghost use Rattle.std.specs.Prelude.{◌≤◌};
 ghost use Rattle.day_window.specs.Window.{Windowed};
-ghost use Rattle.day_rules.specs.Day.{dayText};
+ghost use Rattle.day_rules.specs.Day.{day_text};
 ghost use Rattle.rehearsal.specs.Inner.{Rehearsable};
 
 use crate::steps::rehearse;
@@ -23,7 +23,7 @@ const GOINGS: usize = 3 * CORES;
 // All that a rehearsal says, in a window of its text.
 pub fn write_day(plan: Plan, arrivals: &[u64], stop: Ticks, skip: usize, out: &mut [u8]) -> usize
     requires { Rehearsable plan arrivals.now stop.0 }
-    ensures windowed { Windowed out.old skip 0 (dayText plan arrivals.now stop.0) out.new result }
+    ensures windowed { Windowed out.old skip 0 (day_text plan arrivals.now stop.0) out.new result }
     ensures upper_bound { result ≤ 20000000000000000 }
 {
     let mut fronts = [0u64; FRONTS];

@@ -1,9 +1,9 @@
 // Parts of a rehearsal's steps.
 ghost use Rattle.std.specs.Prelude.{◌≡◌, ◌+◌, ◌-◌, ◌≤◌};
-ghost use Rattle.units.specs.Limits.{coresLimit, tasksLimit, clockLimit};
+ghost use Rattle.units.specs.Limits.{cores_limit, tasks_limit, clock_limit};
 ghost use Rattle.units.specs.Units.{ticks};
-ghost use Rattle.instants.specs.Seen.{leastLeft};
-ghost use Rattle.rehearsal.specs.Parts.{comingAt, doneBy, freshFronts, coreAfter};
+ghost use Rattle.instants.specs.Seen.{least_left};
+ghost use Rattle.rehearsal.specs.Parts.{coming_at, done_by, fresh_fronts, core_after};
 
 use front_rows::store_front;
 use fronts::{Front, front_of};
@@ -16,7 +16,7 @@ use units::ticks::Ticks;
 
 // When the next arrival comes, if it comes before the stop; else the stop.
 pub(crate) fn coming_at(arrivals: &[u64], next: usize, stop: Ticks) -> Ticks
-    ensures { result ≡ ticks (comingAt arrivals.now next stop.0) }
+    ensures { result ≡ ticks (coming_at arrivals.now next stop.0) }
 {
     if next < arrivals.len() / 3 {
         let time = arrivals[3 * next];
@@ -29,7 +29,7 @@ pub(crate) fn coming_at(arrivals: &[u64], next: usize, stop: Ticks) -> Ticks
 
 // A core's run has had its length.
 pub(crate) fn done_by(going: Going, front: Front, had: u64) -> bool
-    ensures { result ≡ doneBy going.task front.length had }
+    ensures { result ≡ done_by going.task front.length had }
 {
     (0 < going.task) & (had == front.length)
 }
@@ -43,8 +43,8 @@ pub(crate) fn place_of(task: usize) -> usize
 
 // The fronts of tasks that have had no run.
 pub(crate) fn fresh_fronts(plan: Plan, fronts: &mut [u64])
-    requires { plan.count ≤ tasksLimit }
-    ensures { fronts.new ≡ freshFronts fronts.old plan.lines plan.count }
+    requires { plan.count ≤ tasks_limit }
+    ensures { fronts.new ≡ fresh_fronts fronts.old plan.lines plan.count }
 {
     let mut i: usize = 0;
     while i < plan.count {
@@ -64,9 +64,9 @@ pub(crate) struct Jump {
 
 // From an instant on, as long as nothing happens; where no choice is done then, the cores are through.
 pub(crate) fn jump_from(instant: Instant, cores: usize, time: Ticks) -> Jump
-    requires { (cores ≤ coresLimit) × (time.0 ≤ instant.next.0) × (instant.next.0 ≤ clockLimit) }
-    ensures more_value { result.more ≡ leastLeft instant.seen (instant.next.0 - time.0) cores }
-    ensures core_value { result.core ≡ coreAfter instant.seen (instant.next.0 - time.0) cores }
+    requires { (cores ≤ cores_limit) × (time.0 ≤ instant.next.0) × (instant.next.0 ≤ clock_limit) }
+    ensures more_value { result.more ≡ least_left instant.seen (instant.next.0 - time.0) cores }
+    ensures core_value { result.core ≡ core_after instant.seen (instant.next.0 - time.0) cores }
 {
     let next = instant.next;
     let seen = instant.seen;

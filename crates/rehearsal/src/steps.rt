@@ -1,12 +1,12 @@
 // The steps of a rehearsal: a finish, an arrival, or a look at all cores and a jump.
 ghost use Rattle.std.specs.Prelude.{◌≡◌, ◌+◌, ◌≤◌};
-ghost use Rattle.writing.specs.Inner.{placeLimit};
-ghost use Rattle.day_lines.specs.Lines.{eventText, eventsText};
+ghost use Rattle.writing.specs.Inner.{place_limit};
+ghost use Rattle.day_lines.specs.Lines.{event_text, events_text};
 ghost use Rattle.day_window.specs.Window.{Windowed};
 ghost use Rattle.day_lines.specs.declared.Event.TheVariants.{Finished};
-ghost use Rattle.day.specs.Desk.{deskAt};
-ghost use Rattle.rehearsal.specs.Desk.{freshDesk};
-ghost use Rattle.rehearsal.specs.Inner.{onCore, Rehearsable, Blank, Stood};
+ghost use Rattle.day.specs.Desk.{desk_at};
+ghost use Rattle.rehearsal.specs.Desk.{fresh_desk};
+ghost use Rattle.rehearsal.specs.Inner.{on_core, Rehearsable, Blank, Stood};
 
 use crate::parts::{coming_at, done_by, fresh_fronts, jump_from, place_of};
 use day_lines::{Event, Ran};
@@ -33,7 +33,7 @@ pub(crate) struct Desk {
 
 // Nothing yet.
 fn fresh_desk(cores: usize) -> Desk
-    ensures { result ≡ freshDesk cores }
+    ensures { result ≡ fresh_desk cores }
 {
     Desk {
         seats: [Seat::FRESH; TASKS],
@@ -55,8 +55,8 @@ fn put_finish(
     time: Ticks,
     ended: Ended,
 ) -> usize
-    requires { at + 180 ≤ placeLimit }
-    ensures windowed { Windowed out.old skip at (eventText (Finished (onCore core run) time ended.late)) out.new result }
+    requires { at + 180 ≤ place_limit }
+    ensures windowed { Windowed out.old skip at (event_text (Finished (on_core core run) time ended.late)) out.new result }
     ensures upper_bound { result ≤ at + 180 }
 {
     let ran = Ran {
@@ -81,7 +81,7 @@ pub(crate) fn rehearse(
 ) -> Desk
     requires { Rehearsable plan arrivals.now stop.0 × Blank fronts.old had.old goings.old }
     ensures stood { Stood plan arrivals.now stop.0 result had.new goings.new }
-    ensures windowed { Windowed out.old skip 0 (eventsText (deskAt plan arrivals.now stop.0).said) out.new result.end }
+    ensures windowed { Windowed out.old skip 0 (events_text (desk_at plan arrivals.now stop.0).said) out.new result.end }
     ensures end_bound { result.end ≤ 10000000000000000 }
 {
     let mut desk = fresh_desk(plan.cores as usize);

@@ -13,7 +13,7 @@ use Rattle.writing.specs.Wrote.{Wrote}
 use Rattle.writing.proofs.Wrote.{then}
 use Rattle.day_window.specs.Window.{Windowed}
 use Rattle.day_window.proofs.Windows.{from_start}
-use Rattle.rehearsal_answer.specs.Inner.{pieceLength}
+use Rattle.rehearsal_answer.specs.Inner.{piece_length}
 
 -- the piece from byte s on
 abbrev pub piece : ℕ → ℕ → List ℕ → List ℕ
@@ -25,15 +25,15 @@ joined n zero s t = []
 joined n (suc f) s t = piece n s t ++ joined n f (s + n) t
 
 -- they are what stands from there on
-pub pieces-from : (n f s : ℕ) (t : List ℕ) → length t ≤ s + n * f → joined n f s t ≡ drop s t
-pieces-from n zero s t h = sym (drop_of_length-le t {i = s} (omega (arith, mul-zero n)))
-pieces-from n (suc f) s t h =
-    ap (λ (l : List ℕ). piece n s t ++ l) (pieces-from n f (s + n) t (omega (arith, mul-suc n f)) ∙ sym (drop-drop n s t))
+pub pieces_from : (n f s : ℕ) (t : List ℕ) → length t ≤ s + n * f → joined n f s t ≡ drop s t
+pieces_from n zero s t h = sym (drop_of_length-le t {i = s} (omega (arith, mul-zero n)))
+pieces_from n (suc f) s t h =
+    ap (λ (l : List ℕ). piece n s t ++ l) (pieces_from n f (s + n) t (omega (arith, mul-suc n f)) ∙ sym (drop-drop n s t))
     ∙ take-append-drop n (drop s t)
 
 -- from the start they are the whole text
 pub pieces : (n f : ℕ) (t : List ℕ) → length t ≤ n * f → joined n f 0 t ≡ t
-pieces n f t h = pieces-from n f 0 t (omega arith)
+pieces n f t h = pieces_from n f 0 t (omega arith)
 
 -- stores past the end change nothing
 past_end : (l : List ℕ) (i : ℕ) (vs : List ℕ) → length l ≤ i → sets l i vs ≡ l
@@ -71,16 +71,16 @@ module _ {a b xs : List ℕ} {s k : ℕ} (w : Windowed a s 0 xs b k) where
       ∙ sym (take_all (length a) (drop s xs) (omega (arith, long)))
 
   -- what is shown of the buffer is the piece
-  pub shown : take (pieceLength (k - s) (length a)) b ≡ piece (length a) s xs
-  unfolding pieceLength
+  pub shown : take (piece_length (k - s) (length a)) b ≡ piece (length a) s xs
+  unfolding piece_length
   shown =
       by_cases (ltb (k - s) (length a))
       (λ e. rw e (let h = ltb-true (k - s) (length a) e in ends (omega arith)))
       (λ e. rw e (fills (ltb-false (k - s) (length a) e)))
 
   -- what stands after the piece
-  later : drop (s + pieceLength (k - s) (length a)) xs ≡ drop (s + length a) xs
-  unfolding pieceLength
+  later : drop (s + piece_length (k - s) (length a)) xs ≡ drop (s + length a) xs
+  unfolding piece_length
   later =
       let z : length xs ≡ k = omega (arith, w.end) in
       by_cases (ltb (k - s) (length a))
@@ -90,28 +90,28 @@ module _ {a b xs : List ℕ} {s k : ℕ} (w : Windowed a s 0 xs b k) where
       (λ e. rw e refl)
 
   -- it and the piece make up what stood there
-  pub then-later : piece (length a) s xs ++ drop (s + pieceLength (k - s) (length a)) xs ≡ drop s xs
-  then-later = ap (λ (l : List ℕ). piece (length a) s xs ++ l) (later ∙ sym (drop-drop (length a) s xs)) ∙ take-append-drop (length a) (drop s xs)
+  pub then_later_lem : piece (length a) s xs ++ drop (s + piece_length (k - s) (length a)) xs ≡ drop s xs
+  then_later_lem = ap (λ (l : List ℕ). piece (length a) s xs ++ l) (later ∙ sym (drop-drop (length a) s xs)) ∙ take-append-drop (length a) (drop s xs)
 
 -- what is left, where it is less than the room
-pub piece-left : (left room : ℕ) → left < room → left ≡ pieceLength left room
-unfolding pieceLength
-piece-left left room h = rw (lt-ltb left room h) refl
+pub piece_left : (left room : ℕ) → left < room → left ≡ piece_length left room
+unfolding piece_length
+piece_left left room h = rw (lt-ltb left room h) refl
 
 -- else as much as there is room for
-pub piece-full : (left room : ℕ) → room ≤ left → room ≡ pieceLength left room
-unfolding pieceLength
-piece-full left room h = rw (le-ltb left room h) refl
+pub piece_full : (left room : ℕ) → room ≤ left → room ≡ piece_length left room
+unfolding piece_length
+piece_full left room h = rw (le-ltb left room h) refl
 
 -- no more than either
-pub piece-in : {r : ℕ} (left room : ℕ) → r ≡ pieceLength left room → (r ≤ left) × (r ≤ room)
-unfolding pieceLength
-piece-in left room e =
+pub piece_in : {r : ℕ} (left room : ℕ) → r ≡ piece_length left room → (r ≤ left) × (r ≤ room)
+unfolding piece_length
+piece_in left room e =
     by_cases (ltb left room)
     (λ t. let h = ltb-true left room t in rw (e, t) (omega arith, omega arith))
     (λ t. let h = ltb-false left room t in rw (e, t) (omega arith, omega arith))
 
 -- and some where there is some of both
-pub piece-some : {r : ℕ} (left room : ℕ) → r ≡ pieceLength left room → 0 < left → 0 < room → 0 < r
-unfolding pieceLength
-piece-some left room e a b = by_cases (ltb left room) (λ t. rw (e, t) a) (λ t. rw (e, t) b)
+pub piece_some : {r : ℕ} (left room : ℕ) → r ≡ piece_length left room → 0 < left → 0 < room → 0 < r
+unfolding piece_length
+piece_some left room e a b = by_cases (ltb left room) (λ t. rw (e, t) a) (λ t. rw (e, t) b)

@@ -1,8 +1,8 @@
 // What the program `rehearse` writes: a table's text, a stop and arrivals in, the day's lines or the refusal's out, piece by piece.
 ghost use Rattle.planning.specs.Plan.{plan_of};
-ghost use Rattle.writing.specs.Refused.{refusalText};
+ghost use Rattle.writing.specs.Refused.{refusal_text};
 ghost use Rattle.day_window.specs.Window.{Windowed};
-ghost use Rattle.rehearsal_answer.specs.Answer.{testedText, plannedText, rehearsalText};
+ghost use Rattle.rehearsal_answer.specs.Answer.{tested_text, planned_text, rehearsal_text};
 ghost use Rattle.rehearsal_answer.specs.Inner.{Stoppable};
 
 use arrivals::arrivals_refusal;
@@ -21,7 +21,7 @@ const LINE: usize = 60;
 
 // A refusal's line from a byte on, as far as the buffer reaches, and the line's length.
 fn put_refusal_within(out: &mut [u8], skip: usize, refusal: Refusal) -> usize
-    ensures { Windowed out.old skip 0 (refusalText refusal) out.new result }
+    ensures { Windowed out.old skip 0 (refusal_text refusal) out.new result }
 {
     let mut line = [0u8; LINE];
     let n = put_refusal(&mut line, 0, refusal);
@@ -41,7 +41,7 @@ fn put_tested(
     out: &mut [u8],
 ) -> usize
     requires { Stoppable plan stop }
-    ensures { Windowed out.old skip 0 (testedText plan stop arrivals.now more) out.new result }
+    ensures { Windowed out.old skip 0 (tested_text plan stop arrivals.now more) out.new result }
 {
     let refusal = arrivals_refusal(plan, arrivals);
     if refusal.no != 0 {
@@ -71,7 +71,7 @@ fn put_planned(
     skip: usize,
     out: &mut [u8],
 ) -> usize
-    ensures { Windowed out.old skip 0 (plannedText (plan_of cores table.now) stop arrivals.now more)
+    ensures { Windowed out.old skip 0 (planned_text (plan_of cores table.now) stop arrivals.now more)
         out.new result }
 {
     let planned = plan_of(cores, table);
@@ -94,7 +94,7 @@ fn put_planned(
 
 // The program's answer to an input from a byte on, as far as the buffer reaches, and the whole answer's length.
 pub fn answer(text: &[u8], skip: usize, out: &mut [u8]) -> usize
-    ensures { Windowed out.old skip 0 (rehearsalText text.now) out.new result }
+    ensures { Windowed out.old skip 0 (rehearsal_text text.now) out.new result }
 {
     let mut table = [0u32; NUMBERS];
     let mut arrivals = [0u64; ARRIVED];

@@ -1,6 +1,6 @@
 // The program: a table's text, a stop and arrivals on standard input, the day's lines or the refusal's on standard output.
 ghost use Rattle.std.specs.Prelude.{◌≡◌, ◌<◌, length};
-ghost use Rattle.rehearsal_answer.specs.Inner.{pieceLength};
+ghost use Rattle.rehearsal_answer.specs.Inner.{piece_length};
 
 use day_text::INPUT;
 use rehearsal_answer::answer;
@@ -18,7 +18,7 @@ fn room() -> [u8; PIECE]
 
 // What is left, as far as there is room.
 fn piece_length(left: usize, room: usize) -> usize
-    ensures { result ≡ pieceLength left room }
+    ensures { result ≡ piece_length left room }
 {
     if left < room { left } else { room }
 }

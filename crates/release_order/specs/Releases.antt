@@ -1,11 +1,11 @@
 -- A task's accepted releases over any calls, document 02, R-2. Tasks are counted from 1.
 use Rattle.std.specs.Prelude.{ℕ, ◌+◌, ◌-◌, ◌≤◌, ◌<◌, cond, List, [], ◌∷◌, ◌++◌, map}
-use Rattle.planning.specs.Tasks.{taskLine}
+use Rattle.planning.specs.Tasks.{task_line}
 use Rattle.dispatch.specs.declared.Record.{Record}
 use Rattle.dispatch.specs.declared.call.Call.{Call}
 use Rattle.dispatch.specs.declared.call.Answer.{Answer}
 use Rattle.dispatch.specs.declared.call.Answer.TheVariants.{Refused, Released, Finished, Looked}
-use Rattle.dispatch.specs.Calls.{answeredOf, timeOf, step, releases}
+use Rattle.dispatch.specs.Calls.{answered_of, time_of, step, releases}
 
 -- an accepted release: its call's time, and its release time
 pub record Came : Type 0 where
@@ -13,24 +13,24 @@ pub record Came : Type 0 where
   pub released : ℕ
 
 -- what an answer at time t tells of it: the release time is the deadline less T
-abbrev pub cameIn : ℕ → ℕ → Answer → List Came
-cameIn T t (Refused x) = []
-cameIn T t (Released p d) = record { called = t; released = d.0 - T } ∷ []
-cameIn T t (Finished late) = []
-cameIn T t (Looked choice) = []
+abbrev pub came_in : ℕ → ℕ → Answer → List Came
+came_in T t (Refused x) = []
+came_in T t (Released p d) = record { called = t; released = d.0 - T } ∷ []
+came_in T t (Finished late) = []
+came_in T t (Looked choice) = []
 
 -- the accepted release of task i that a call is, if it is one
-abbrev pub cameBy : ℕ → Record → Call → List Came
-cameBy i r c = cond (releases i c) (cameIn (taskLine r.plan i).period.0 (timeOf c) (answeredOf r c).answer) []
+abbrev pub came_by : ℕ → Record → Call → List Came
+came_by i r c = cond (releases i c) (came_in (task_line r.plan i).period.0 (time_of c) (answered_of r c).answer) []
 
 -- the accepted releases of task i, in order
-abbrev pub cameOf : ℕ → Record → List Call → List Came
-cameOf i r [] = []
-cameOf i r (c ∷ cs) = cameBy i r c ++ cameOf i (step r c) cs
+abbrev pub came_of : ℕ → Record → List Call → List Came
+came_of i r [] = []
+came_of i r (c ∷ cs) = came_by i r c ++ came_of i (step r c) cs
 
 -- their release times
-abbrev pub timesOf : List Came → List ℕ
-timesOf xs = map (λ (a : Came). a.released) xs
+abbrev pub times_of : List Came → List ℕ
+times_of xs = map (λ (a : Came). a.released) xs
 
 -- after release time x each release time is its call's time, or the last one plus T where that is later
 pub data After (T : ℕ) : ℕ → List Came → Type 0 where

@@ -4,8 +4,8 @@ use Rattle.lists.specs.Settled.{Settled}
 use Rattle.release_times.proofs.release_time.Reads as ReleaseTime
 use Rattle.release_times.proofs.held.Reads as HeldReads
 
-pub release-time : Settled ReleaseTime.Post
-release-time κs a x y e f p q = p ∙ sym q
+pub release_time_lem : Settled ReleaseTime.Post
+release_time_lem κs a x y e f p q = p ∙ sym q
 
 pub is_held : Settled HeldReads.Post
 is_held κs a x y e f p q = p ∙ sym q

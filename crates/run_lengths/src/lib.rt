@@ -1,7 +1,7 @@
 // What a rehearsal keeps of a task beside its state: its unfinished runs' lengths, and how many runs have ended.
 ghost use Rattle.std.specs.Prelude.{◌≡◌, ◌<◌};
-ghost use Rattle.units.specs.Limits.{runsLimit, clockLimit};
-ghost use Rattle.run_lengths.specs.Work.{withLength, withoutLength};
+ghost use Rattle.units.specs.Limits.{runs_limit, clock_limit};
+ghost use Rattle.run_lengths.specs.Work.{with_length, without_length};
 
 use units::limits::RUNS;
 
@@ -20,8 +20,8 @@ impl Work {
 
     // One run more, at its place among the unfinished ones.
     pub fn with_run(self, at: usize, length: u64) -> Work
-        requires { at < runsLimit }
-        ensures { result ≡ withLength self at length }
+        requires { at < runs_limit }
+        ensures { result ≡ with_length self at length }
     {
         let mut work = self;
         work.lengths[at] = length;
@@ -30,8 +30,8 @@ impl Work {
 
     // Without the oldest run: the others move up.
     pub fn without_run(self) -> Work
-        requires { self.ended < clockLimit }
-        ensures { result ≡ withoutLength self }
+        requires { self.ended < clock_limit }
+        ensures { result ≡ without_length self }
     {
         let n1 = self.lengths[1];
         let n2 = self.lengths[2];

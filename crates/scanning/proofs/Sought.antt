@@ -3,30 +3,30 @@ use Prim.Native.Nat.{ℕ, zero, suc, ◌+◌, ◌-◌, ◌≤◌, ◌<◌}
 use mathlib.Core.Path.{◌≡◌, refl, ◌∙◌}
 use native.Mathlib.Omega.{arith}
 use borrow.Author.Tests.{lt-ltb, le-ltb, eq-eqb, ne_eqb}
-use Rattle.scanning.specs.Lines.{unreadableFrom}
+use Rattle.scanning.specs.Lines.{unreadable_from}
 
 module _ (next : ℕ → ℕ) (n at : ℕ) where
   -- at the end of the text no line is left
-  none_left : (f line : ℕ) → n ≤ at → unreadableFrom next f n line at ≡ 0
-  unfolding unreadableFrom
+  none_left : (f line : ℕ) → n ≤ at → unreadable_from next f n line at ≡ 0
+  unfolding unreadable_from
   none_left zero line h = refl
   none_left (suc f) line h = rw (le-ltb at n h)
 
   module _ (f g : ℕ) (e : f ≡ suc g) (h : at < n) (line : ℕ) where
     -- an unreadable line is the first
-    this-line : next at ≡ 0 → unreadableFrom next f n line at ≡ line
-    unfolding unreadableFrom
-    this-line p = rw (e, lt-ltb at n h, eq-eqb (next at) 0 p)
+    this_line : next at ≡ 0 → unreadable_from next f n line at ≡ line
+    unfolding unreadable_from
+    this_line p = rw (e, lt-ltb at n h, eq-eqb (next at) 0 p)
 
     -- after one that can be read the later ones decide
-    later-line : (next at ≡ 0 → ⊥) → unreadableFrom next f n line at ≡ unreadableFrom next g n (line + 1) (next at)
-    unfolding unreadableFrom
-    later-line p = rw (e, lt-ltb at n h, ne_eqb (next at) 0 p)
+    later_line : (next at ≡ 0 → ⊥) → unreadable_from next f n line at ≡ unreadable_from next g n (line + 1) (next at)
+    unfolding unreadable_from
+    later_line p = rw (e, lt-ltb at n h, ne_eqb (next at) 0 p)
 
 -- while the first unreadable line is looked for: `line` stands at a place, and from there on it is the same; `start` is the first line
 pub record Sought (next : ℕ → ℕ) (n start from line at : ℕ) : Type 0 where
   pub ahead : line ≤ at + start
-  pub same : unreadableFrom next n n start from ≡ unreadableFrom next (n + start - line) n line at
+  pub same : unreadable_from next n n start from ≡ unreadable_from next (n + start - line) n line at
 
 -- at first it is the first line
 pub first : (next : ℕ → ℕ) (n start from : ℕ) → Sought next n start from start from
@@ -38,16 +38,16 @@ module _ (next : ℕ → ℕ) (n start from line at : ℕ) (h : Sought next n st
   later {place} k p q =
       let e : n + start - line ≡ suc (n + start - (line + 1)) = omega (arith, h.ahead) in
       let z : next at ≡ 0 → ⊥ = λ x. omega (arith, x, p, q) in
-      let r : unreadableFrom next (n + start - (line + 1)) n (line + 1) (next at) ≡ unreadableFrom next (n + start - (line + 1)) n
+      let r : unreadable_from next (n + start - (line + 1)) n (line + 1) (next at) ≡ unreadable_from next (n + start - (line + 1)) n
       (line + 1) place = rw p refl in
-      record { ahead = omega (arith, h.ahead); same = h.same ∙ later-line next n at _ _ e k line z ∙ r }
+      record { ahead = omega (arith, h.ahead); same = h.same ∙ later_line next n at _ _ e k line z ∙ r }
 
   -- one that cannot is the first
-  pub here : at < n → next at ≡ 0 → unreadableFrom next n n start from ≡ line
+  pub here : at < n → next at ≡ 0 → unreadable_from next n n start from ≡ line
   here k p =
       let e : n + start - line ≡ suc (n + start - (line + 1)) = omega (arith, h.ahead) in
-      h.same ∙ this-line next n at _ _ e k line p
+      h.same ∙ this_line next n at _ _ e k line p
 
   -- at the end there is none
-  pub ended : n ≤ at → unreadableFrom next n n start from ≡ 0
+  pub ended : n ≤ at → unreadable_from next n n start from ≡ 0
   ended k = h.same ∙ none_left next n at _ line k

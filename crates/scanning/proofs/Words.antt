@@ -38,8 +38,8 @@ module _ (w s : List ℕ) (at i next : ℕ) (h : Reading w s at i next) where
     other p q = rw (h.same, first_byte w i more, first_byte s next p, ne_eqb _ _ q)
 
     -- the same byte
-    pub next-byte : next < length s → get_or s next 0 ≡ get_or w i 0 → Reading w s at (i + 1) (next + 1)
-    next-byte p q = record {
+    pub next_byte : next < length s → get_or s next 0 ≡ get_or w i 0 → Reading w s at (i + 1) (next + 1)
+    next_byte p q = record {
       far = omega (arith, h.far);
       within = omega arith;
       same = h.same ∙ rw (first_byte w i more, first_byte s next p, eq-eqb _ _ q) refl;
@@ -54,9 +54,9 @@ module _ (w s : List ℕ) (at i next : ℕ) (h : Reading w s at i next) where
 
 module _ (w s : List ℕ) (at : ℕ) where
   -- a word that was read stands there, and ends after its length
-  pub word-here : {next : ℕ} → word_at w s at ≡ After next → (starts w (drop at s) ≡ true) × (next ≡ at + length w)
+  pub word_here : {next : ℕ} → word_at w s at ≡ After next → (starts w (drop at s) ≡ true) × (next ≡ at + length w)
   unfolding word_at
-  word-here {next} e =
+  word_here {next} e =
       by_cases (starts w (drop at s))
       (λ h. let f = rw h at e in let z : at + length w ≡ next = cc in (h, sym z))
       (λ h. let f = rw h at e in let z : ◌≡◌ {A = ℕ} 0 1 = cc in absurd (omega arith))

@@ -10,32 +10,32 @@ use lib.ListN.{length, get_or, drop}
 use lib.Seq.{drop-cons, drop-drop, drop-append-add, get_or-drop, get_or-append_seam}
 use Rattle.lists.proofs.Tests.{by_cases}
 use Rattle.writing.specs.Ascii.{blank, newline}
-use Rattle.writing.specs.Decimal.{decimalOf}
+use Rattle.writing.specs.Decimal.{decimal_of}
 use Rattle.scanning.specs.Number.{number_at}
-use Rattle.scanning.specs.Line.{followedBy, field_at, secondAfter, firstAfter, pairBy, pair_at}
-use Rattle.scanning.proofs.Fields.{inside, field_is, no_value, no-pair}
-use Rattle.scanning.proofs.Written.{NoDigit, number-written, number_read}
+use Rattle.scanning.specs.Line.{followed_by, field_at, second_after, first_after, pair_by, pair_at}
+use Rattle.scanning.proofs.Fields.{inside, field_is, no_value, no_pair}
+use Rattle.scanning.proofs.Written.{NoDigit, number_written, number_read}
 use Rattle.scanning.specs.declared.number.Number.{Number}
 use Rattle.scanning.specs.declared.number.Number.TheVariants.{Value, NoNumber}
 use Rattle.scanning.specs.declared.line.Pair.TheVariants.{Two}
 
 -- a number that is written at a place with a byte after it
-pub field-written : (b : ℕ) (s : List ℕ) (e at n : ℕ) (rest : List ℕ) → n < b → NoDigit e → drop at s ≡ decimalOf n ++ e ∷ rest
-    → (field_at b s e at ≡ Value n (at + length (decimalOf n) + 1)) × (drop (at + length (decimalOf n) + 1) s ≡ rest)
-field-written b s e at n rest h stop p =
-    let k = length (decimalOf n) in
-    let here : get_or s (at + k) 0 ≡ e = sym (get_or-drop at s k 0) ∙ ap (λ (l : List ℕ). get_or l k 0) p ∙ get_or-append_seam (decimalOf n) e rest 0 in
+pub field_written : (b : ℕ) (s : List ℕ) (e at n : ℕ) (rest : List ℕ) → n < b → NoDigit e → drop at s ≡ decimal_of n ++ e ∷ rest
+    → (field_at b s e at ≡ Value n (at + length (decimal_of n) + 1)) × (drop (at + length (decimal_of n) + 1) s ≡ rest)
+field_written b s e at n rest h stop p =
+    let k = length (decimal_of n) in
+    let here : get_or s (at + k) 0 ≡ e = sym (get_or-drop at s k 0) ∙ ap (λ (l : List ℕ). get_or l k 0) p ∙ get_or-append_seam (decimal_of n) e rest 0 in
     let f : at + k + 1 ≡ at + (k + 1) = omega arith in (
-      field_is b s e at (number-written b s at n (e ∷ rest) h stop p) here,
-      ap (λ (j : ℕ). drop j s) f ∙ sym (drop-drop (k + 1) at s) ∙ ap (drop (k + 1)) p ∙ drop-append-add (decimalOf n) (e ∷ rest) 1,
+      field_is b s e at (number_written b s at n (e ∷ rest) h stop p) here,
+      ap (λ (j : ℕ). drop j s) f ∙ sym (drop-drop (k + 1) at s) ∙ ap (drop (k + 1)) p ∙ drop-append-add (decimal_of n) (e ∷ rest) 1,
     )
 
 -- one that was read is written there
-pub field-read : (b : ℕ) (s : List ℕ) (e at v a : ℕ) → 10 ≤ b → 0 < e → field_at b s e at ≡ Value v a → (v < b) × (drop at s ≡ decimalOf v ++ e ∷ drop a s)
-unfolding field_at followedBy
-field-read b s e at v a h p = go (number_at b s at) refl
+pub field_read : (b : ℕ) (s : List ℕ) (e at v a : ℕ) → 10 ≤ b → 0 < e → field_at b s e at ≡ Value v a → (v < b) × (drop at s ≡ decimal_of v ++ e ∷ drop a s)
+unfolding field_at followed_by
+field_read b s e at v a h p = go (number_at b s at) refl
   where
-    go : (n : Number) → number_at b s at ≡ n → followedBy s e n ≡ Value v a → (v < b) × (drop at s ≡ decimalOf v ++ e ∷ drop a s)
+    go : (n : Number) → number_at b s at ≡ n → followed_by s e n ≡ Value v a → (v < b) × (drop at s ≡ decimal_of v ++ e ∷ drop a s)
     go (Value w q) r f =
         by_cases (eqb (get_or s q 0) e)
         (λ k.
@@ -43,47 +43,47 @@ field-read b s e at v a h p = go (number_at b s at) refl
         let i = eqb-true (get_or s q 0) e k in
         let m = number_read b s at w q h r in (
           omega (arith, m.0),
-          m.1 ∙ ap₂ (λ (u : ℕ) (l : List ℕ). decimalOf u ++ l) y
+          m.1 ∙ ap₂ (λ (u : ℕ) (l : List ℕ). decimal_of u ++ l) y
               (drop-cons s q 0 (inside s q e p i) ∙ ap₂ (λ (c k : ℕ). c ∷ drop k s) i z),
         ))
         (λ k. no_value (rw k at f))
     go NoNumber r f = no_value f
 
 -- two numbers that are written at a place with a byte between, which is no digit, and a newline after
-pub pair-by-written : (b e : ℕ) (s : List ℕ) (at x y : ℕ) (rest : List ℕ) → NoDigit e → x < b → y < b
-    → drop at s ≡ decimalOf x ++ e ∷ (decimalOf y ++ newline ∷ rest) → (a : ℕ) × (pairBy b e s at ≡ Two x y a) × (drop a s ≡ rest)
-unfolding firstAfter secondAfter
-pair-by-written b e s at x y rest stop h k p =
-    let f = field-written b s e at x (decimalOf y ++ newline ∷ rest) h stop p in
-    let g = field-written b s newline (at + length (decimalOf x) + 1) y rest k (inl (omega arith)) f.1 in
-    (at + length (decimalOf x) + 1 + length (decimalOf y) + 1, rw (f.0, g.0), g.1)
+pub pair_by_written : (b e : ℕ) (s : List ℕ) (at x y : ℕ) (rest : List ℕ) → NoDigit e → x < b → y < b
+    → drop at s ≡ decimal_of x ++ e ∷ (decimal_of y ++ newline ∷ rest) → (a : ℕ) × (pair_by b e s at ≡ Two x y a) × (drop a s ≡ rest)
+unfolding first_after second_after
+pair_by_written b e s at x y rest stop h k p =
+    let f = field_written b s e at x (decimal_of y ++ newline ∷ rest) h stop p in
+    let g = field_written b s newline (at + length (decimal_of x) + 1) y rest k (inl (omega arith)) f.1 in
+    (at + length (decimal_of x) + 1 + length (decimal_of y) + 1, rw (f.0, g.0), g.1)
 
 -- two that were read are written there
-pub pair-by-read : (b e : ℕ) (s : List ℕ) (at x y a : ℕ) → 10 ≤ b → 0 < e → pairBy b e s at ≡ Two x y a
-    → drop at s ≡ decimalOf x ++ e ∷ (decimalOf y ++ newline ∷ drop a s)
-unfolding firstAfter secondAfter
-pair-by-read b e s at x y a h pos = go (field_at b s e at) refl
+pub pair_by_read : (b e : ℕ) (s : List ℕ) (at x y a : ℕ) → 10 ≤ b → 0 < e → pair_by b e s at ≡ Two x y a
+    → drop at s ≡ decimal_of x ++ e ∷ (decimal_of y ++ newline ∷ drop a s)
+unfolding first_after second_after
+pair_by_read b e s at x y a h pos = go (field_at b s e at) refl
   where
-    second : (u p : ℕ) (n : Number) → field_at b s newline p ≡ n → secondAfter u n ≡ Two x y a → (u ≡ x) × (drop p s ≡ decimalOf y ++ newline ∷ drop a s)
+    second : (u p : ℕ) (n : Number) → field_at b s newline p ≡ n → second_after u n ≡ Two x y a → (u ≡ x) × (drop p s ≡ decimal_of y ++ newline ∷ drop a s)
     second u p (Value w q) r f =
         let i : u ≡ x = cc in let j : w ≡ y = cc in let z : q ≡ a = cc in
-        (i, (field-read b s newline p w q h (omega arith) r).1 ∙ ap₂ (λ (v k : ℕ). decimalOf v ++ newline ∷ drop k s) j z)
-    second u p NoNumber r f = no-pair f
+        (i, (field_read b s newline p w q h (omega arith) r).1 ∙ ap₂ (λ (v k : ℕ). decimal_of v ++ newline ∷ drop k s) j z)
+    second u p NoNumber r f = no_pair f
 
-    go : (n : Number) → field_at b s e at ≡ n → firstAfter b s n ≡ Two x y a → drop at s ≡ decimalOf x ++ e ∷ (decimalOf y ++ newline ∷ drop a s)
+    go : (n : Number) → field_at b s e at ≡ n → first_after b s n ≡ Two x y a → drop at s ≡ decimal_of x ++ e ∷ (decimal_of y ++ newline ∷ drop a s)
     go (Value u p) r f =
         let z = second u p (field_at b s newline p) refl f in
-        (field-read b s e at u p h pos r).1 ∙ ap₂ (λ (v : ℕ) (l : List ℕ). decimalOf v ++ e ∷ l) z.0 z.1
-    go NoNumber r f = no-pair f
+        (field_read b s e at u p h pos r).1 ∙ ap₂ (λ (v : ℕ) (l : List ℕ). decimal_of v ++ e ∷ l) z.0 z.1
+    go NoNumber r f = no_pair f
 
 -- two with a blank between and a newline after
-pub pair-written : (b : ℕ) (s : List ℕ) (at x y : ℕ) (rest : List ℕ) → x < b → y < b → drop at s ≡ decimalOf x ++ blank ∷ (decimalOf y ++ newline ∷ rest)
+pub pair_written : (b : ℕ) (s : List ℕ) (at x y : ℕ) (rest : List ℕ) → x < b → y < b → drop at s ≡ decimal_of x ++ blank ∷ (decimal_of y ++ newline ∷ rest)
     → (a : ℕ) × (pair_at b s at ≡ Two x y a) × (drop a s ≡ rest)
 unfolding pair_at
-pair-written b s at x y rest h k p = pair-by-written b blank s at x y rest (inl (omega arith)) h k p
+pair_written b s at x y rest h k p = pair_by_written b blank s at x y rest (inl (omega arith)) h k p
 
 -- two that were read so are written there
 pub pair_read : (b : ℕ) (s : List ℕ) (at x y a : ℕ) → 10 ≤ b → pair_at b s at ≡ Two x y a
-    → drop at s ≡ decimalOf x ++ blank ∷ (decimalOf y ++ newline ∷ drop a s)
+    → drop at s ≡ decimal_of x ++ blank ∷ (decimal_of y ++ newline ∷ drop a s)
 unfolding pair_at
-pair_read b s at x y a h e = pair-by-read b blank s at x y a h (omega arith) e
+pair_read b s at x y a h e = pair_by_read b blank s at x y a h (omega arith) e

@@ -8,28 +8,28 @@ use Rattle.scanning.specs.declared.line.Pair.{Pair}
 use Rattle.scanning.specs.declared.line.Pair.TheVariants.{Two, NoPair}
 
 -- a number has to be followed by the byte e, and is then read with it
-unfoldable pub followedBy : List ℕ → ℕ → Number → Number
-followedBy s e (Value v at) = cond (eqb (get_or s at 0) e) (Value v (at + 1)) NoNumber
-followedBy s e NoNumber = NoNumber
+unfoldable pub followed_by : List ℕ → ℕ → Number → Number
+followed_by s e (Value v at) = cond (eqb (get_or s at 0) e) (Value v (at + 1)) NoNumber
+followed_by s e NoNumber = NoNumber
 
 -- the number at a place that the byte e follows, with the place after that byte
 unfoldable pub field_at : ℕ → List ℕ → ℕ → ℕ → Number
-field_at b s e at = followedBy s e (number_at b s at)
+field_at b s e at = followed_by s e (number_at b s at)
 
 -- the second number, after the first
-unfoldable pub secondAfter : ℕ → Number → Pair
-secondAfter x (Value y at) = Two x y at
-secondAfter x NoNumber = NoPair
+unfoldable pub second_after : ℕ → Number → Pair
+second_after x (Value y at) = Two x y at
+second_after x NoNumber = NoPair
 
 -- the first number, then the second
-unfoldable pub firstAfter : ℕ → List ℕ → Number → Pair
-firstAfter b s (Value x at) = secondAfter x (field_at b s newline at)
-firstAfter b s NoNumber = NoPair
+unfoldable pub first_after : ℕ → List ℕ → Number → Pair
+first_after b s (Value x at) = second_after x (field_at b s newline at)
+first_after b s NoNumber = NoPair
 
 -- the two numbers at a place with the byte e between, each below b, to the end of their line, with the place after its newline
-abbrev pub pairBy : ℕ → ℕ → List ℕ → ℕ → Pair
-pairBy b e s at = firstAfter b s (field_at b s e at)
+abbrev pub pair_by : ℕ → ℕ → List ℕ → ℕ → Pair
+pair_by b e s at = first_after b s (field_at b s e at)
 
 -- the two numbers at a place with one blank between
 unfoldable pub pair_at : ℕ → List ℕ → ℕ → Pair
-pair_at b s at = pairBy b blank s at
+pair_at b s at = pair_by b blank s at

@@ -4,23 +4,23 @@ use Rattle.scanning.specs.declared.number.Number.{Number}
 use Rattle.scanning.specs.declared.number.Number.TheVariants.{Value, NoNumber}
 
 -- what a byte is as a digit, 48 to 57 being 0 to 9, and 10 if it is none
-unfoldable pub digitOf : ℕ → ℕ
-digitOf b = cond (leb 48 b) (cond (leb b 57) (b - 48) 10) 10
+unfoldable pub digit_of : ℕ → ℕ
+digit_of b = cond (leb 48 b) (cond (leb b 57) (b - 48) 10) 10
 
 -- the digits that follow the value v at a place: a byte that is no digit ends the number
-unfoldable pub digitsOf : ℕ → List ℕ → ℕ → ℕ → Number
-digitsOf b [] v at = Value v at
-digitsOf b (x ∷ s) v at =
-    cond (ltb (digitOf x) 10)
-    (cond (ltb (v * 10 + digitOf x) b) (digitsOf b s (v * 10 + digitOf x) (at + 1)) NoNumber)
+unfoldable pub digits_of : ℕ → List ℕ → ℕ → ℕ → Number
+digits_of b [] v at = Value v at
+digits_of b (x ∷ s) v at =
+    cond (ltb (digit_of x) 10)
+    (cond (ltb (v * 10 + digit_of x) b) (digits_of b s (v * 10 + digit_of x) (at + 1)) NoNumber)
     (Value v at)
 
 -- no leading zeros: 0 alone, or a digit that is not 0 and those that follow it
 unfoldable pub first_of : ℕ → List ℕ → ℕ → Number
 first_of b [] at = NoNumber
 first_of b (x ∷ s) at =
-    cond (ltb (digitOf x) 10)
-    (cond (eqb (digitOf x) 0) (Value 0 (at + 1)) (digitsOf b s (digitOf x) (at + 1)))
+    cond (ltb (digit_of x) 10)
+    (cond (eqb (digit_of x) 0) (Value 0 (at + 1)) (digits_of b s (digit_of x) (at + 1)))
     NoNumber
 
 -- the number at a place of the text, with the place after it

@@ -2,7 +2,7 @@
 ghost use Rattle.std.specs.Prelude.{◌≡◌, ◌<◌, get_or};
 ghost use Rattle.writing.specs.Ascii.{newline};
 ghost use Rattle.scanning.specs.Inner.{Bound};
-ghost use Rattle.scanning.specs.Line.{field_at, secondAfter, pairBy, pair_at};
+ghost use Rattle.scanning.specs.Line.{field_at, second_after, pair_by, pair_at};
 
 use crate::number::{Number, read_number};
 use writing::{BLANK, NEWLINE};
@@ -50,7 +50,7 @@ pub fn read_pair(text: &[u8], at: usize, bound: u64) -> Pair
 // The two numbers at a place with a byte between, to the end of their line.
 pub fn read_pair_by(text: &[u8], at: usize, bound: u64, between: u8) -> Pair
     requires { Bound bound × (0 < between) }
-    ensures { result ≡ pairBy bound between text.now at }
+    ensures { result ≡ pair_by bound between text.now at }
 {
     match read_field(text, at, bound, between) {
         Number::NoNumber => Pair::NoPair,
@@ -61,7 +61,7 @@ pub fn read_pair_by(text: &[u8], at: usize, bound: u64, between: u8) -> Pair
 // The second of them, after the first.
 fn read_second(text: &[u8], at: usize, bound: u64, first: u64) -> Pair
     requires { Bound bound }
-    ensures { result ≡ secondAfter first (field_at bound text.now newline at) }
+    ensures { result ≡ second_after first (field_at bound text.now newline at) }
 {
     match read_field(text, at, bound, NEWLINE) {
         Number::NoNumber => Pair::NoPair,

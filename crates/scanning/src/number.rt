@@ -1,6 +1,6 @@
 // Reading a number.
 ghost use Rattle.std.specs.Prelude.{◌≡◌, ◌≤◌, ◌<◌, length, drop};
-ghost use Rattle.scanning.specs.Number.{digitOf, digitsOf, number_at};
+ghost use Rattle.scanning.specs.Number.{digit_of, digits_of, number_at};
 ghost use Rattle.scanning.specs.Inner.{Bound};
 
 // A number and the place after it.
@@ -12,7 +12,7 @@ pub enum Number {
 
 // What a byte is as a digit, and 10 if it is none.
 fn digit(b: u8) -> u64
-    ensures value { result ≡ digitOf b }
+    ensures value { result ≡ digit_of b }
     ensures upper_bound { result ≤ 10 }
 {
     if b < 48 {
@@ -27,7 +27,7 @@ fn digit(b: u8) -> u64
 // The digits that follow a number's first.
 fn digits(text: &[u8], from: usize, first: u64, bound: u64) -> Number
     requires { (from ≤ length text.now) × (first < bound) × Bound bound }
-    ensures { result ≡ digitsOf bound (drop from text.now) first from }
+    ensures { result ≡ digits_of bound (drop from text.now) first from }
 {
     let mut at = from;
     let mut v = first;

@@ -3,14 +3,14 @@ use Rattle.std.specs.Prelude.{ℕ, cond, eqb}
 use Rattle.std.proofs.Math.IntN.{sub_ℕ}
 use Rattle.planning.specs.declared.Line.{Line}
 use Rattle.task_state.specs.declared.State.{State}
-use Rattle.task_state.specs.State.{freshState, noState}
-use Rattle.task_state.specs.Due.{releaseAt}
-use Rattle.task_state.specs.Runs.{with_run, withoutRun}
-use Rattle.task_state.specs.Tests.{releaseTests}
-use Rattle.task_state.specs.Key.{deadlineOf}
+use Rattle.task_state.specs.State.{fresh_state, no_state}
+use Rattle.task_state.specs.Due.{release_at}
+use Rattle.task_state.specs.Runs.{with_run, without_run}
+use Rattle.task_state.specs.Tests.{release_tests}
+use Rattle.task_state.specs.Key.{deadline_of}
 use Rattle.run_lengths.specs.declared.Work.{Work}
-use Rattle.run_lengths.specs.Work.{freshWork, noWork, withLength, withoutLength}
-use Rattle.fronts.specs.Front.{frontOf}
+use Rattle.run_lengths.specs.Work.{fresh_work, no_work, with_length, without_length}
+use Rattle.fronts.specs.Front.{front_of}
 use Rattle.seats.specs.declared.Seat.{Seat}
 use Rattle.seats.specs.declared.Arrived.{Arrived}
 use Rattle.seats.specs.declared.Ended.{Ended}
@@ -20,29 +20,29 @@ abbrev pub seat : State → Work → Seat
 seat st wk = record { state = st; work = wk }
 
 -- a task that has had no run
-unfoldable pub freshSeat : Seat
-freshSeat = seat freshState freshWork
+unfoldable pub fresh_seat : Seat
+fresh_seat = seat fresh_state fresh_work
 
 -- what stands past the last task
-abbrev pub noSeat : Seat
-noSeat = seat noState noWork
+abbrev pub no_seat : Seat
+no_seat = seat no_state no_work
 
 -- a run of n ticks arrives at t: taken, or refused and nothing changed
-unfoldable pub arrivedOf : Line → State → Work → ℕ → ℕ → Arrived
-arrivedOf ln st wk t n =
-    let more = with_run ln st (releaseAt ln st t) in
-    let lengths = withLength wk st.live n in
-    let ok = eqb (releaseTests ln st t) 0 in
+unfoldable pub arrived_of : Line → State → Work → ℕ → ℕ → Arrived
+arrived_of ln st wk t n =
+    let more = with_run ln st (release_at ln st t) in
+    let lengths = with_length wk st.live n in
+    let ok = eqb (release_tests ln st t) 0 in
     record {
-      refusal = releaseTests ln st t;
+      refusal = release_tests ln st t;
       seat = cond ok (seat more lengths) (seat st wk);
-      front = cond ok (frontOf ln more lengths) (frontOf ln st wk);
+      front = cond ok (front_of ln more lengths) (front_of ln st wk);
     }
 
 -- the oldest run ends at t
 unfoldable pub ended_of : Line → State → Work → ℕ → Ended
 ended_of ln st wk t = record {
-  late = sub_ℕ t (deadlineOf st);
-  seat = seat (withoutRun st) (withoutLength wk);
-  front = frontOf ln (withoutRun st) (withoutLength wk);
+  late = sub_ℕ t (deadline_of st);
+  seat = seat (without_run st) (without_length wk);
+  front = front_of ln (without_run st) (without_length wk);
 }

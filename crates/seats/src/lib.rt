@@ -1,6 +1,6 @@
 // One task of a rehearsal: its state and its runs' lengths, with a run more and without the oldest.
 ghost use Rattle.std.specs.Prelude.{◌≡◌};
-ghost use Rattle.seats.specs.Seat.{arrivedOf, ended_of};
+ghost use Rattle.seats.specs.Seat.{arrived_of, ended_of};
 ghost use Rattle.seats.specs.Inner.{Arrivable, Endable};
 
 use fronts::{Front, front_of};
@@ -43,7 +43,7 @@ impl Seat {
     // A run of a length arrives.
     pub fn arrive(self, line: Line, time: Ticks, length: u64) -> Arrived
         requires { Arrivable line self.state self.work time.0 length }
-        ensures { result ≡ arrivedOf line self.state self.work time.0 length }
+        ensures { result ≡ arrived_of line self.state self.work time.0 length }
     {
         let state = self.state;
         let work = self.work;

@@ -3,20 +3,20 @@ use Prim.Native.Nat.{ℕ, ◌-◌}
 use mathlib.Core.Path.{◌≡◌, refl, ap, ◌∙◌}
 use mathlib.Core.List.{List}
 use lib.ListN.{length, take, drop}
-use Rattle.units.specs.Refusals.{refusal, textNo}
-use Rattle.scanning.proofs.Fields.{rest-is}
+use Rattle.units.specs.Refusals.{refusal, text_no}
+use Rattle.scanning.proofs.Fields.{rest_is}
 use Rattle.scanning.specs.declared.number.Number.TheVariants.{Value, NoNumber}
-use Rattle.table_text.specs.Text.{coresLine}
-use Rattle.sheet_reading.specs.Read.{unread, planSheet}
-use Rattle.sheet_answer.specs.Input.{afterCores, inputSheet}
+use Rattle.table_text.specs.Text.{cores_line}
+use Rattle.sheet_reading.specs.Read.{unread, plan_sheet}
+use Rattle.sheet_answer.specs.Input.{after_cores, input_sheet}
 
 module _ (s : List ℕ) where
   -- M's line cannot be read
-  pub input_none : coresLine s ≡ NoNumber → unread (refusal textNo 1) ≡ inputSheet s
-  unfolding inputSheet afterCores
+  pub input_none : cores_line s ≡ NoNumber → unread (refusal text_no 1) ≡ input_sheet s
+  unfolding input_sheet after_cores
   input_none e = rw e refl
 
   -- it can, and the sheet follows
-  pub input-is : {m at : ℕ} → coresLine s ≡ Value m at → planSheet m (take (length s - at) (drop at s)) ≡ inputSheet s
-  unfolding inputSheet afterCores
-  input-is {m} {at} e = ap (planSheet m) (rest-is s at) ∙ rw e refl
+  pub input_is : {m at : ℕ} → cores_line s ≡ Value m at → plan_sheet m (take (length s - at) (drop at s)) ≡ input_sheet s
+  unfolding input_sheet after_cores
+  input_is {m} {at} e = ap (plan_sheet m) (rest_is s at) ∙ rw e refl

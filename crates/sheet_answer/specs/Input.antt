@@ -1,17 +1,17 @@
 -- What the programs `sheet` and `table` are given: a line with M, as in document 01's text, then the sheet.
 use Rattle.std.specs.Prelude.{ℕ, List, drop}
-use Rattle.units.specs.Refusals.{refusal, textNo}
+use Rattle.units.specs.Refusals.{refusal, text_no}
 use Rattle.scanning.specs.declared.number.Number.{Number}
 use Rattle.scanning.specs.declared.number.Number.TheVariants.{Value, NoNumber}
-use Rattle.table_text.specs.Text.{coresLine}
-use Rattle.sheet_reading.specs.Read.{unread, planSheet}
+use Rattle.table_text.specs.Text.{cores_line}
+use Rattle.sheet_reading.specs.Read.{unread, plan_sheet}
 use Rattle.sheet_reading.specs.declared.Sheet.{Sheet}
 
 -- what stands after M's line is the sheet; where that line cannot be read, 16 names line 1
-unfoldable pub afterCores : List ℕ → Number → Sheet
-afterCores s (Value m at) = planSheet m (drop at s)
-afterCores s NoNumber = unread (refusal textNo 1)
+unfoldable pub after_cores : List ℕ → Number → Sheet
+after_cores s (Value m at) = plan_sheet m (drop at s)
+after_cores s NoNumber = unread (refusal text_no 1)
 
 -- the sheet of an input, planned: 16 comes first, then 19
-unfoldable pub inputSheet : List ℕ → Sheet
-inputSheet s = afterCores s (coresLine s)
+unfoldable pub input_sheet : List ℕ → Sheet
+input_sheet s = after_cores s (cores_line s)

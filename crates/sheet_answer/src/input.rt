@@ -1,6 +1,6 @@
 // The input of both programs.
 ghost use Rattle.std.specs.Prelude.{◌≡◌};
-ghost use Rattle.sheet_answer.specs.Input.{inputSheet};
+ghost use Rattle.sheet_answer.specs.Input.{input_sheet};
 
 use scanning::line::read_field;
 use scanning::number::Number;
@@ -13,7 +13,7 @@ const BOUND: u64 = 4_294_967_296;
 
 // The sheet after M's line, planned; where that line cannot be read, 16 names line 1.
 pub(crate) fn read_input(text: &[u8]) -> Sheet
-    ensures { result ≡ inputSheet text.now }
+    ensures { result ≡ input_sheet text.now }
 {
     match read_field(text, 0, BOUND, NEWLINE) {
         Number::NoNumber => {

@@ -1,12 +1,12 @@
 // What `sheet` writes: the listing, the tick length and a name for each task.
 ghost use Rattle.std.specs.Prelude.{true, ◌≡◌, ◌∷◌, ◌++◌, ◌+◌, ◌*◌, ◌≤◌, length};
 ghost use Rattle.writing.specs.Ascii.{blank};
-ghost use Rattle.writing.specs.Field.{field, lineEnd};
-ghost use Rattle.writing.specs.Inner.{placeLimit};
+ghost use Rattle.writing.specs.Field.{field, line_end};
+ghost use Rattle.writing.specs.Inner.{place_limit};
 ghost use Rattle.writing.specs.Wrote.{Wrote};
 ghost use Rattle.name_list.specs.Names.{names_of};
-ghost use Rattle.sheet_answer.specs.Inner.{Listable, answerLimit};
-ghost use Rattle.sheet_answer.specs.Answers.{nameLines, namedListing, sheetText};
+ghost use Rattle.sheet_answer.specs.Inner.{Listable, answer_limit};
+ghost use Rattle.sheet_answer.specs.Answers.{name_lines, named_listing, sheet_text};
 
 use crate::input::read_input;
 use listing::listed::list_plan;
@@ -20,8 +20,8 @@ pub const ANSWER: usize = 32_768;
 
 // A task's name, a line.
 fn put_named(buf: &mut [u8], at: usize, task: usize, name: &[u8]) -> usize
-    requires { (at + 39 ≤ placeLimit) × (length name.now ≤ 12) }
-    ensures wrote { Wrote buf.old at ((field "name " task ++ blank ∷ name.now) ++ lineEnd) buf.new result }
+    requires { (at + 39 ≤ place_limit) × (length name.now ≤ 12) }
+    ensures wrote { Wrote buf.old at ((field "name " task ++ blank ∷ name.now) ++ line_end) buf.new result }
     ensures upper_bound { result ≤ at + 27 + length name.now }
 {
     let a = put_field(buf, at, b"name ", task as u64);
@@ -33,7 +33,7 @@ fn put_named(buf: &mut [u8], at: usize, task: usize, name: &[u8]) -> usize
 // A line for each task's name.
 fn put_name_lines(buf: &mut [u8], at: usize, names: &[u8]) -> usize
     requires { (at ≤ 20000) × (length names.now ≤ 832) }
-    ensures wrote { Wrote buf.old at (nameLines 1 (names_of names.now)) buf.new result }
+    ensures wrote { Wrote buf.old at (name_lines 1 (names_of names.now)) buf.new result }
     ensures upper_bound { result ≤ at + 14 * 832 }
 {
     let mut place = 0;
@@ -53,9 +53,9 @@ fn put_name_lines(buf: &mut [u8], at: usize, names: &[u8]) -> usize
 
 // A sheet that is taken.
 fn put_taken(out: &mut [u8], sheet: Sheet) -> usize
-    requires { Listable sheet × (answerLimit ≤ length out.old) }
-    ensures wrote { Wrote out.old 0 (namedListing sheet) out.new result }
-    ensures upper_bound { result ≤ answerLimit }
+    requires { Listable sheet × (answer_limit ≤ length out.old) }
+    ensures wrote { Wrote out.old 0 (named_listing sheet) out.new result }
+    ensures upper_bound { result ≤ answer_limit }
 {
     let plan = sheet.plan;
     let listed = list_plan(plan, out);
@@ -68,9 +68,9 @@ fn put_taken(out: &mut [u8], sheet: Sheet) -> usize
 
 // The program's answer to an input, and its length.
 pub fn answer_sheet(text: &[u8], out: &mut [u8]) -> usize
-    requires { answerLimit ≤ length out.old }
-    ensures wrote { Wrote out.old 0 (sheetText text.now) out.new result }
-    ensures upper_bound { result ≤ answerLimit }
+    requires { answer_limit ≤ length out.old }
+    ensures wrote { Wrote out.old 0 (sheet_text text.now) out.new result }
+    ensures upper_bound { result ≤ answer_limit }
 {
     let sheet = read_input(text);
     let refusal = sheet.refusal;

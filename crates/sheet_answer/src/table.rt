@@ -1,10 +1,10 @@
 // What `table` writes: the table's text.
 ghost use Rattle.std.specs.Prelude.{◌≡◌, ◌++◌, ◌+◌, ◌≤◌, length};
-ghost use Rattle.writing.specs.Inner.{placeLimit};
+ghost use Rattle.writing.specs.Inner.{place_limit};
 ghost use Rattle.writing.specs.Wrote.{Wrote};
-ghost use Rattle.table_text.specs.Grammar.{coresWritten, taskWritten, tasksWritten};
+ghost use Rattle.table_text.specs.Grammar.{cores_written, task_written, tasks_written};
 ghost use Rattle.sheet_answer.specs.Inner.{Few};
-ghost use Rattle.sheet_answer.specs.Answers.{tableIn, tableText};
+ghost use Rattle.sheet_answer.specs.Answers.{table_in, table_text};
 
 use crate::input::read_input;
 use planning::Plan;
@@ -17,8 +17,8 @@ pub const TABLE: usize = 4_096;
 
 // A task's line.
 fn put_task(buf: &mut [u8], at: usize, cost: Duration, period: Duration) -> usize
-    requires { at + 42 ≤ placeLimit }
-    ensures wrote { Wrote buf.old at (taskWritten cost.0 period.0) buf.new result }
+    requires { at + 42 ≤ place_limit }
+    ensures wrote { Wrote buf.old at (task_written cost.0 period.0) buf.new result }
     ensures upper_bound { result ≤ at + 42 }
 {
     let a = put_number(buf, at, cost.0 as u64);
@@ -29,7 +29,7 @@ fn put_task(buf: &mut [u8], at: usize, cost: Duration, period: Duration) -> usiz
 // A line for each task.
 fn put_tasks(buf: &mut [u8], at: usize, plan: Plan) -> usize
     requires { (at ≤ 21) × Few plan }
-    ensures wrote { Wrote buf.old at (tasksWritten (tableIn plan)) buf.new result }
+    ensures wrote { Wrote buf.old at (tasks_written (table_in plan)) buf.new result }
     ensures upper_bound { result ≤ 4096 }
 {
     let lines = plan.lines;
@@ -49,7 +49,7 @@ fn put_tasks(buf: &mut [u8], at: usize, plan: Plan) -> usize
 // M's line and a line for each task.
 fn put_plan(buf: &mut [u8], plan: Plan) -> usize
     requires { Few plan }
-    ensures wrote { Wrote buf.old 0 (coresWritten plan.cores ++ tasksWritten (tableIn plan)) buf.new result }
+    ensures wrote { Wrote buf.old 0 (cores_written plan.cores ++ tasks_written (table_in plan)) buf.new result }
     ensures upper_bound { result ≤ 4096 }
 {
     let a = put_number(buf, 0, plan.cores as u64);
@@ -59,7 +59,7 @@ fn put_plan(buf: &mut [u8], plan: Plan) -> usize
 
 // The program's answer to an input, and its length.
 pub fn answer_table(text: &[u8], out: &mut [u8]) -> usize
-    ensures wrote { Wrote out.old 0 (tableText text.now) out.new result }
+    ensures wrote { Wrote out.old 0 (table_text text.now) out.new result }
     ensures upper_bound { result ≤ 4096 }
 {
     let sheet = read_input(text);

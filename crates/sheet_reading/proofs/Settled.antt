@@ -7,5 +7,5 @@ use Rattle.sheet_reading.proofs.plan_sheet.Reads as PlanSheet
 pub unread : Settled Unread.Post
 unread κs a x y e f p q = p ∙ sym q
 
-pub plan-sheet : Settled PlanSheet.Post
-plan-sheet κs a x y e f p q = p ∙ sym q
+pub plan_sheet_lem : Settled PlanSheet.Post
+plan_sheet_lem κs a x y e f p q = p ∙ sym q

@@ -4,20 +4,20 @@ use Rattle.std.proofs.lemmas.List.Edits.{sets}
 use Rattle.lists.specs.Lists.{zeros}
 use Rattle.units.specs.declared.refusal.Refusal.{Refusal}
 use Rattle.units.specs.Refusals.{refusal, taken}
-use Rattle.planning.specs.Plan.{emptyPlan, plan_of}
+use Rattle.planning.specs.Plan.{empty_plan, plan_of}
 use Rattle.planning.specs.declared.Planned.{Planned}
-use Rattle.name_list.specs.Names.{namesText}
-use Rattle.sheet_text.specs.Job.{Job, namesIn, ticksIn}
-use Rattle.sheet_text.specs.Sheet.{Said, says, refusedBy, sheetOf}
+use Rattle.name_list.specs.Names.{names_text}
+use Rattle.sheet_text.specs.Job.{Job, names_in, ticks_in}
+use Rattle.sheet_text.specs.Sheet.{Said, says, refused_by, sheet_of}
 use Rattle.sheet_reading.specs.declared.Sheet.{Sheet}
 
 -- bytes of the names of a table, at most: 64 lines of 13
-abbrev pub namesLimit : ℕ
-namesLimit = 832
+abbrev pub names_limit : ℕ
+names_limit = 832
 
 -- a refusal, every other number 0
 unfoldable pub unread : Refusal → Sheet
-unread r = record { refusal = r; tick = 0; names = zeros namesLimit; length = 0; plan = emptyPlan }
+unread r = record { refusal = r; tick = 0; names = zeros names_limit; length = 0; plan = empty_plan }
 
 -- the tick length, the names, a name a line, and the plan of the jobs; or planning's refusal
 unfoldable pub planned : ℕ → List Job → Planned → Sheet
@@ -26,17 +26,17 @@ planned tick js p =
     (record {
       refusal = taken;
       tick = tick;
-      names = sets (zeros namesLimit) 0 (namesText (namesIn js));
-      length = length (namesText (namesIn js));
+      names = sets (zeros names_limit) 0 (names_text (names_in js));
+      length = length (names_text (names_in js));
       plan = p.plan;
     })
     (unread p.refusal)
 
 -- what a sheet says is planned, in ticks; 17 to 19 name nothing
 unfoldable pub answered : ℕ → Said → Sheet
-answered m (says tick js) = planned tick js (plan_of m (ticksIn tick js))
-answered m (refusedBy n) = unread (refusal n 0)
+answered m (says tick js) = planned tick js (plan_of m (ticks_in tick js))
+answered m (refused_by n) = unread (refusal n 0)
 
 -- the plan of a sheet: 19, 17, 18, then planning's refusals, or what it says, planned
-unfoldable pub planSheet : ℕ → List ℕ → Sheet
-planSheet m s = answered m (sheetOf s)
+unfoldable pub plan_sheet : ℕ → List ℕ → Sheet
+plan_sheet m s = answered m (sheet_of s)

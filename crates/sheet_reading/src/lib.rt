@@ -1,9 +1,9 @@
 // Reading the office's sheet: a core count and a sheet to the tick length, the names and the plan, or the refusal.
 ghost use Rattle.std.specs.Prelude.{◌≡◌, map, ◌≤◌, length};
 ghost use Rattle.planning.specs.Plan.{plan_of};
-ghost use Rattle.sheet_text.specs.Job.{jobsFrom};
-ghost use Rattle.sheet_text.specs.Sheet.{sheetLimit};
-ghost use Rattle.sheet_reading.specs.Read.{unread as unreadBy, planned, planSheet};
+ghost use Rattle.sheet_text.specs.Job.{jobs_from};
+ghost use Rattle.sheet_text.specs.Sheet.{sheet_limit};
+ghost use Rattle.sheet_reading.specs.Read.{unread as unreadBy, planned, plan_sheet};
 
 use planning::{Line, Plan, plan_of};
 use sheet_text::job::put_names;
@@ -46,8 +46,8 @@ pub fn unread(refusal: Refusal) -> Sheet
 
 // A sheet whose jobs start at a place, with its table in ticks.
 fn plan_jobs(cores: u32, sheet: &[u8], tick: u32, from: usize, table: &[u32]) -> Sheet
-    requires { length sheet.now ≤ sheetLimit }
-    ensures { result ≡ planned tick (jobsFrom (length sheet.now) sheet.now from) (plan_of cores table.now) }
+    requires { length sheet.now ≤ sheet_limit }
+    ensures { result ≡ planned tick (jobs_from (length sheet.now) sheet.now from) (plan_of cores table.now) }
 {
     let planned = plan_of(cores, table);
     let refusal = planned.refusal;
@@ -68,7 +68,7 @@ fn plan_jobs(cores: u32, sheet: &[u8], tick: u32, from: usize, table: &[u32]) ->
 
 // The plan of a sheet on a number of cores.
 pub fn plan_sheet(cores: u32, sheet: &[u8]) -> Sheet
-    ensures { result ≡ planSheet cores sheet.now }
+    ensures { result ≡ plan_sheet cores sheet.now }
 {
     let mut table = [0u32; NUMBERS];
     match read_sheet(sheet, &mut table) {

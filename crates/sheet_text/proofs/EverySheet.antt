@@ -7,130 +7,130 @@ use mathlib.Core.List.{List, ◌++◌}
 use native.Mathlib.Omega.{arith}
 use borrow.Author.Tests.{lt-ltb, le-leb}
 use lib.ListN.{length, drop}
-use Rattle.lists.proofs.Tests.{by_cases, and-true}
+use Rattle.lists.proofs.Tests.{by_cases, and_true}
 use Rattle.writing.proofs.Decimal.{either}
 use Rattle.scanning.proofs.Fields.{no_value}
 use Rattle.scanning.specs.declared.number.Number.{Number}
 use Rattle.scanning.specs.declared.number.Number.TheVariants.{Value, NoNumber}
 use Rattle.name_list.specs.Names.{twice}
-use Rattle.name_list.proofs.Repeated.{twice-exactly}
-use Rattle.tick_length.specs.Ticks.{tickIn, tickLimit}
-use Rattle.sheet_text.specs.Job.{Job, namesIn}
-use Rattle.sheet_text.specs.Sheet.{Said, says, refusedBy, tickLine, jobsSaid, sheetOf}
-use Rattle.sheet_text.specs.Grammar.{TickIn, tickWritten, Distinct, Starts, Jobs, NoJobs, Says, sheet, refused-19, refused-17, refused-18}
-use Rattle.sheet_text.proofs.Jobs.{jobsAt}
-use Rattle.sheet_text.proofs.Written.{tick-written, tick-read, jobs-written, jobs-read}
-use Rattle.sheet_text.proofs.Says.{tick-range, jobs-long, jobs-bad, jobs-twice, jobs-said, sheet-none, sheet-out, sheet-is}
-use Rattle.sheet_text.proofs.Cases.{Ticked, Listed, Case, no_number, out_of_range, too_long, bad-line, same_name, read, case-of}
+use Rattle.name_list.proofs.Repeated.{twice_exactly}
+use Rattle.tick_length.specs.Ticks.{tick_in, tick_limit}
+use Rattle.sheet_text.specs.Job.{Job, names_in}
+use Rattle.sheet_text.specs.Sheet.{Said, says, refused_by, tick_line, jobs_said, sheet_of}
+use Rattle.sheet_text.specs.Grammar.{TickIn, tick_written, Distinct, Starts, Jobs, NoJobs, Says, sheet, refused_19, refused_17, refused_18}
+use Rattle.sheet_text.proofs.Jobs.{jobs_at}
+use Rattle.sheet_text.proofs.Written.{tick_written_lem, tick_read, jobs_written_lem, jobs_read}
+use Rattle.sheet_text.proofs.Says.{tick_range, jobs_long, jobs_bad, jobs_twice, jobs_said_lem, sheet_none, sheet_out, sheet_is}
+use Rattle.sheet_text.proofs.Cases.{Ticked, Listed, Case, no_number, out_of_range, too_long, bad_line, same_name, read, case_of}
 
 -- a tick length in range passes its test
-in-range : (tick : ℕ) → TickIn tick → tickIn tick ≡ true
-in-range tick h = and-true _ _ (lt-ltb 0 tick h.0) (le-leb tick tickLimit h.1)
+in_range : (tick : ℕ) → TickIn tick → tick_in tick ≡ true
+in_range tick h = and_true _ _ (lt-ltb 0 tick h.0) (le-leb tick tick_limit h.1)
 
 -- no test gives both answers
-not-both : {A : Type 0} → true ≡ false → A
-not-both e = absurd (let z : ◌≡◌ {A = ℕ} 0 1 = cc in omega (arith, z))
+not_both : {A : Type 0} → true ≡ false → A
+not_both e = absurd (let z : ◌≡◌ {A = ℕ} 0 1 = cc in omega (arith, z))
 
 -- names that are distinct pass the test for one that stands twice
-not-twice : (js : List Job) → Distinct (namesIn js) → twice (namesIn js) ≡ false
-not-twice js h =
-    by_cases (twice (namesIn js))
-    (λ e. let r = (twice-exactly (namesIn js)).0 e in absurd (h r.0 r.1 r.2 r.3 r.4))
+not_twice : (js : List Job) → Distinct (names_in js) → twice (names_in js) ≡ false
+not_twice js h =
+    by_cases (twice (names_in js))
+    (λ e. let r = (twice_exactly (names_in js)).0 e in absurd (h r.0 r.1 r.2 r.3 r.4))
     (λ e. e)
 
 -- and where the test finds none, they are
-distinct : (js : List Job) → twice (namesIn js) ≡ false → Distinct (namesIn js)
-distinct js e i j h k p = not-both (sym ((twice-exactly (namesIn js)).1 (i, j, h, k, p)) ∙ e)
+distinct : (js : List Job) → twice (names_in js) ≡ false → Distinct (names_in js)
+distinct js e i j h k p = not_both (sym ((twice_exactly (names_in js)).1 (i, j, h, k, p)) ∙ e)
 
 module _ (s : List ℕ) where
   -- a sheet that starts with the line of a tick length is read so
-  after-tick : {tick : ℕ} {rest : List ℕ} → Starts s tick rest → (at : ℕ) × Ticked s tick at × (drop at s ≡ rest)
-  after-tick {tick} {rest} h =
-      let w = tick-written s tick rest (omega (arith, h.tickIn.1)) h.lines in
-      (w.0, record { line = w.1; range = in-range tick h.tickIn }, w.2)
+  after_tick_lem : {tick : ℕ} {rest : List ℕ} → Starts s tick rest → (at : ℕ) × Ticked s tick at × (drop at s ≡ rest)
+  after_tick_lem {tick} {rest} h =
+      let w = tick_written_lem s tick rest (omega (arith, h.tick_in.1)) h.lines in
+      (w.0, record { line = w.1; range = in_range tick h.tick_in }, w.2)
 
   -- and what is read so starts with it
-  starts-of : {tick at : ℕ} → Ticked s tick at → Starts s tick (drop at s)
-  starts-of {tick} {at} t = record { tickIn = tick-range tick t.range; lines = tick-read s tick at t.line }
+  starts_of : {tick at : ℕ} → Ticked s tick at → Starts s tick (drop at s)
+  starts_of {tick} {at} t = record { tick_in = tick_range tick t.range; lines = tick_read s tick at t.line }
 
   -- the lines of jobs are read as those
-  listed : {tick : ℕ} {js : List Job} → Jobs s tick js → (at : ℕ) × Listed s tick at × (jobsAt s at ≡ js)
+  listed : {tick : ℕ} {js : List Job} → Jobs s tick js → (at : ℕ) × Listed s tick at × (jobs_at s at ≡ js)
   listed h =
-      let t = after-tick h.starts in
-      let w = jobs-written s t.0 h.good t.2 in
+      let t = after_tick_lem h.starts in
+      let w = jobs_written_lem s t.0 h.good t.2 in
       (t.0, record { ticked = t.1; short = h.short; fine = w.1 }, w.0)
 
   -- and the jobs that are read are their lines
-  jobs-of : {tick at : ℕ} → Listed s tick at → Jobs s tick (jobsAt s at)
-  jobs-of {tick} {at} l =
-      let t = starts-of l.ticked in
-      let r = jobs-read s at l.fine in
+  jobs_of_lem : {tick at : ℕ} → Listed s tick at → Jobs s tick (jobs_at s at)
+  jobs_of_lem {tick} {at} l =
+      let t = starts_of l.ticked in
+      let r = jobs_read s at l.fine in
       record {
-        starts = record { tickIn = t.tickIn; lines = t.lines ∙ ap (λ (z : List ℕ). tickWritten tick ++ z) r.1 };
+        starts = record { tick_in = t.tick_in; lines = t.lines ∙ ap (λ (z : List ℕ). tick_written tick ++ z) r.1 };
         good = r.0;
         short = l.short;
       }
 
   -- the first line is of no tick length
-  reads-19 : ((tick : ℕ) (rest : List ℕ) → Starts s tick rest → ⊥) → sheetOf s ≡ refusedBy 19
-  reads-19 h = go (tickLine s) refl
+  reads_19 : ((tick : ℕ) (rest : List ℕ) → Starts s tick rest → ⊥) → sheet_of s ≡ refused_by 19
+  reads_19 h = go (tick_line s) refl
     where
-      go : (n : Number) → tickLine s ≡ n → sheetOf s ≡ refusedBy 19
-      go NoNumber e = sheet-none s e
+      go : (n : Number) → tick_line s ≡ n → sheet_of s ≡ refused_by 19
+      go NoNumber e = sheet_none s e
       go (Value tick at) e =
-          by_cases (tickIn tick) (λ k. absurd (h tick (drop at s) (starts-of (record { line = e; range = k })))) (λ k. sheet-out s e k)
+          by_cases (tick_in tick) (λ k. absurd (h tick (drop at s) (starts_of (record { line = e; range = k })))) (λ k. sheet_out s e k)
 
   -- what follows it is too long, or not the lines of jobs
-  reads-17 : {tick : ℕ} {rest : List ℕ} → Starts s tick rest → NoJobs s rest → sheetOf s ≡ refusedBy 17
-  reads-17 {tick} {rest} h n =
-      let t = after-tick h in
-      sheet-is s t.1.line t.1.range ∙ go t.0 t.2 n
+  reads_17 : {tick : ℕ} {rest : List ℕ} → Starts s tick rest → NoJobs s rest → sheet_of s ≡ refused_by 17
+  reads_17 {tick} {rest} h n =
+      let t = after_tick_lem h in
+      sheet_is s t.1.line t.1.range ∙ go t.0 t.2 n
     where
-      go : (at : ℕ) → drop at s ≡ rest → NoJobs s rest → jobsSaid s tick at ≡ refusedBy 17
-      go at e (inl l) = jobs-long s tick at l
+      go : (at : ℕ) → drop at s ≡ rest → NoJobs s rest → jobs_said s tick at ≡ refused_by 17
+      go at e (inl l) = jobs_long s tick at l
       go at e (inr none) =
           either 4096 (length s)
-          (λ l. jobs-long s tick at l)
-          (λ l. jobs-bad s tick at l refl (λ z. let r = jobs-read s at z in none (jobsAt s at) r.0 (sym e ∙ r.1)))
+          (λ l. jobs_long s tick at l)
+          (λ l. jobs_bad s tick at l refl (λ z. let r = jobs_read s at z in none (jobs_at s at) r.0 (sym e ∙ r.1)))
 
   -- what a sheet says by its form is what is read
-  pub reads : {x : Said} → Says s x → sheetOf s ≡ x
+  pub reads : {x : Said} → Says s x → sheet_of s ≡ x
   reads (sheet {tick} {js} h d) =
       let (at, l, e) = listed h in
-      sheet-is s l.ticked.line l.ticked.range
-      ∙ jobs-said s tick at l.short refl l.fine refl (ap (λ (z : List Job). twice (namesIn z)) e ∙ not-twice js d)
+      sheet_is s l.ticked.line l.ticked.range
+      ∙ jobs_said_lem s tick at l.short refl l.fine refl (ap (λ (z : List Job). twice (names_in z)) e ∙ not_twice js d)
       ∙ ap (says tick) e
-  reads (refused-19 h) = reads-19 h
-  reads (refused-17 h n) = reads-17 h n
-  reads (refused-18 {tick} {js} h d) =
+  reads (refused_19 h) = reads_19 h
+  reads (refused_17 h n) = reads_17 h n
+  reads (refused_18 {tick} {js} h d) =
       let (at, l, e) = listed h in
-      sheet-is s l.ticked.line l.ticked.range
-      ∙ jobs-twice s tick at l.short refl l.fine refl (ap (λ (z : List Job). twice (namesIn z)) e ∙ (twice-exactly (namesIn js)).1 d)
+      sheet_is s l.ticked.line l.ticked.range
+      ∙ jobs_twice s tick at l.short refl l.fine refl (ap (λ (z : List Job). twice (names_in z)) e ∙ (twice_exactly (names_in js)).1 d)
 
   -- in each case the sheet says what is read
-  case-says : {x : Said} → Case s x → Says s x
-  case-says (no_number e) = refused-19 (λ tick rest h. no_value (sym e ∙ (after-tick h).1.line))
-  case-says (out_of_range {tick} {at} e k) = refused-19 other
+  case_says : {x : Said} → Case s x → Says s x
+  case_says (no_number e) = refused_19 (λ tick rest h. no_value (sym e ∙ (after_tick_lem h).1.line))
+  case_says (out_of_range {tick} {at} e k) = refused_19 other
     where
       other : (n : ℕ) (rest : List ℕ) → Starts s n rest → ⊥
       other n rest h =
-          let (a, t, f) = after-tick h in
+          let (a, t, f) = after_tick_lem h in
           let p : Value tick at ≡ Value n a = sym e ∙ t.line in
           let z : tick ≡ n = cc in
-          not-both (sym t.range ∙ ap tickIn (sym z) ∙ k)
-  case-says (too_long t h) = refused-17 (starts-of t) (inl h)
-  case-says (bad-line {tick} {at} t h) = refused-17 (starts-of t) (inr (λ js g e. h (jobs-written s at g e).1))
-  case-says (same_name {tick} {at} l e) = refused-18 (jobs-of l) ((twice-exactly (namesIn (jobsAt s at))).0 e)
-  case-says (read {tick} {at} l e) = sheet (jobs-of l) (distinct (jobsAt s at) e)
+          not_both (sym t.range ∙ ap tick_in (sym z) ∙ k)
+  case_says (too_long t h) = refused_17 (starts_of t) (inl h)
+  case_says (bad_line {tick} {at} t h) = refused_17 (starts_of t) (inr (λ js g e. h (jobs_written_lem s at g e).1))
+  case_says (same_name {tick} {at} l e) = refused_18 (jobs_of_lem l) ((twice_exactly (names_in (jobs_at s at))).0 e)
+  case_says (read {tick} {at} l e) = sheet (jobs_of_lem l) (distinct (jobs_at s at) e)
 
   -- every sheet says what is read
-  pub says_so : Says s (sheetOf s)
-  says_so = case-says (case-of s)
+  pub says_so : Says s (sheet_of s)
+  says_so = case_says (case_of s)
 
   -- so what is read is what the sheet says by its form
-  pub said-exactly : (x : Said) → Says s x ↔ (sheetOf s ≡ x)
-  said-exactly x = (reads, λ e. rw e at says_so)
+  pub said_exactly : (x : Said) → Says s x ↔ (sheet_of s ≡ x)
+  said_exactly x = (reads, λ e. rw e at says_so)
 
   -- and no sheet says two things
-  pub said-once : {x y : Said} → Says s x → Says s y → x ≡ y
-  said-once g h = sym (reads g) ∙ reads h
+  pub said_once : {x y : Said} → Says s x → Says s y → x ≡ y
+  said_once g h = sym (reads g) ∙ reads h

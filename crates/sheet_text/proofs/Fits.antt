@@ -12,47 +12,47 @@ use Rattle.scanning.specs.declared.line.Pair.{Pair}
 use Rattle.scanning.specs.declared.line.Pair.TheVariants.{Two, NoPair}
 use Rattle.names.specs.Name.{name_at}
 use Rattle.tick_length.specs.Inner.{held}
-use Rattle.sheet_text.specs.Job.{Job, jobAt, ticksIn, thenJobs, jobsFrom}
-use Rattle.sheet_text.specs.Sheet.{Said, sheetOf, table_of}
-use Rattle.sheet_text.proofs.Jobs.{job-kept}
-use Rattle.sheet_text.proofs.Cases.{Case, no_number, out_of_range, too_long, bad-line, same_name, read, case-of}
+use Rattle.sheet_text.specs.Job.{Job, job_at, ticks_in, then_jobs, jobs_from}
+use Rattle.sheet_text.specs.Sheet.{Said, sheet_of, table_of}
+use Rattle.sheet_text.proofs.Jobs.{job_kept}
+use Rattle.sheet_text.proofs.Cases.{Case, no_number, out_of_range, too_long, bad_line, same_name, read, case_of}
 
 -- one line, of six bytes or more, before the later ones
-line-fits : (n tick at : ℕ) (later : ℕ → List Job) (name : List ℕ) (line : Pair) → at < n → ((c t next : ℕ) → line ≡ Two c t next → at + 6 ≤ next)
-    → ((next : ℕ) → 3 * length (ticksIn tick (later next)) ≤ n + 5 - next) → 3 * length (ticksIn tick (thenJobs later name line)) ≤ n + 5 - at
-unfolding thenJobs
-line-fits n tick at later name (Two c t next) h f g = omega (arith, f c t next refl, g next)
-line-fits n tick at later name NoPair h f g = omega arith
+line_fits : (n tick at : ℕ) (later : ℕ → List Job) (name : List ℕ) (line : Pair) → at < n → ((c t next : ℕ) → line ≡ Two c t next → at + 6 ≤ next)
+    → ((next : ℕ) → 3 * length (ticks_in tick (later next)) ≤ n + 5 - next) → 3 * length (ticks_in tick (then_jobs later name line)) ≤ n + 5 - at
+unfolding then_jobs
+line_fits n tick at later name (Two c t next) h f g = omega (arith, f c t next refl, g next)
+line_fits n tick at later name NoPair h f g = omega arith
 
 -- the numbers of the jobs from a place on; the last line may end past the sheet by five bytes
-numbers_fit : (f : ℕ) (s : List ℕ) (tick at : ℕ) → 3 * length (ticksIn tick (jobsFrom f s at)) ≤ length s + 5 - at
-unfolding jobsFrom
+numbers_fit : (f : ℕ) (s : List ℕ) (tick at : ℕ) → 3 * length (ticks_in tick (jobs_from f s at)) ≤ length s + 5 - at
+unfolding jobs_from
 numbers_fit zero s tick at = omega arith
 numbers_fit (suc f) s tick at =
     by_cases (ltb at (length s))
-    (λ h. rw h (line-fits (length s) tick at (λ next. jobsFrom f s next) (name_at s at) (jobAt s at) (ltb-true at (length s) h)
-    (λ c t next e. (job-kept s at c t next e).further) (λ next. numbers_fit f s tick next)))
+    (λ h. rw h (line_fits (length s) tick at (λ next. jobs_from f s next) (name_at s at) (job_at s at) (ltb-true at (length s) h)
+    (λ c t next e. (job_kept s at c t next e).further) (λ next. numbers_fit f s tick next)))
     (λ h. rw h (omega arith))
 
 -- in each case they are few
-case-few : {s : List ℕ} {x : Said} → Case s x → length (table_of x) ≤ 2048
+case_few : {s : List ℕ} {x : Said} → Case s x → length (table_of x) ≤ 2048
 unfolding table_of
-case-few (no_number e) = omega arith
-case-few (out_of_range e h) = omega arith
-case-few (too_long t h) = omega arith
-case-few (bad-line t h) = omega arith
-case-few (same_name l e) = omega arith
-case-few {s} (read {tick} {at} l e) = omega (arith, l.short, numbers_fit (length s) s tick at)
+case_few (no_number e) = omega arith
+case_few (out_of_range e h) = omega arith
+case_few (too_long t h) = omega arith
+case_few (bad_line t h) = omega arith
+case_few (same_name l e) = omega arith
+case_few {s} (read {tick} {at} l e) = omega (arith, l.short, numbers_fit (length s) s tick at)
 
 -- the numbers of a sheet
-pub few-numbers : (s : List ℕ) → length (table_of (sheetOf s)) ≤ 2048
-few-numbers s = case-few (case-of s)
+pub few_numbers : (s : List ℕ) → length (table_of (sheet_of s)) ≤ 2048
+few_numbers s = case_few (case_of s)
 
 -- so a lent table of 2,048 numbers starts with all of them
-pub table-holds : (s l : List ℕ) → 2048 ≤ length l
-    → take (length (table_of (sheetOf s))) (sets l 0 (map held (table_of (sheetOf s)))) ≡ map held (table_of (sheetOf s))
-table-holds s l h =
-    let n = length (table_of (sheetOf s)) in
-    let xs = map held (table_of (sheetOf s)) in
-    let k : length xs ≡ n = length-map (table_of (sheetOf s)) held in
-    ap (take n) (sets-eq xs l 0 (omega (arith, few-numbers s, k))) ∙ take_at xs (drop (0 + length xs) l) n k
+pub table_holds : (s l : List ℕ) → 2048 ≤ length l
+    → take (length (table_of (sheet_of s))) (sets l 0 (map held (table_of (sheet_of s)))) ≡ map held (table_of (sheet_of s))
+table_holds s l h =
+    let n = length (table_of (sheet_of s)) in
+    let xs = map held (table_of (sheet_of s)) in
+    let k : length xs ≡ n = length-map (table_of (sheet_of s)) held in
+    ap (take n) (sets-eq xs l 0 (omega (arith, few_numbers s, k))) ∙ take_at xs (drop (0 + length xs) l) n k

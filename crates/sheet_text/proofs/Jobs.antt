@@ -7,97 +7,97 @@ use borrow.Author.Tests.{lt-ltb, le-ltb, ne_eqb, eqb-true, eqb-false}
 use lib.Dec.{ltb, eqb}
 use lib.ListN.{length}
 use Rattle.lists.proofs.Tests.{by_cases}
-use Rattle.names.specs.Name.{name_at, nameEnd}
-use Rattle.names.proofs.Written.{name-ahead}
-use Rattle.scanning.specs.Line.{pairBy}
-use Rattle.scanning.proofs.Fields.{pair-by-kept, no-pair}
+use Rattle.names.specs.Name.{name_at, name_end}
+use Rattle.names.proofs.Written.{name_ahead}
+use Rattle.scanning.specs.Line.{pair_by}
+use Rattle.scanning.proofs.Fields.{pair_by_kept, no_pair}
 use Rattle.scanning.specs.declared.line.Pair.{Pair}
 use Rattle.scanning.specs.declared.line.Pair.TheVariants.{Two, NoPair}
-use Rattle.sheet_text.specs.Job.{Job, job, comma, nanosBound, afterName, jobAt, thenJobs, jobsFrom}
+use Rattle.sheet_text.specs.Job.{Job, job, comma, nanos_bound, after_name, job_at, then_jobs, jobs_from}
 
 module _ (s : List ℕ) (at : ℕ) where
   -- no name, no job
-  pub job-none : nameEnd s comma at ≡ 0 → NoPair ≡ jobAt s at
-  unfolding jobAt afterName
-  job-none e = rw e refl
+  pub job_none : name_end s comma at ≡ 0 → NoPair ≡ job_at s at
+  unfolding job_at after_name
+  job_none e = rw e refl
 
   -- after a name its numbers decide
-  pub job_is : {a : ℕ} → a ≡ nameEnd s comma at → (a ≡ 0 → ⊥) → pairBy nanosBound comma s a ≡ jobAt s at
-  unfolding jobAt afterName
+  pub job_is : {a : ℕ} → a ≡ name_end s comma at → (a ≡ 0 → ⊥) → pair_by nanos_bound comma s a ≡ job_at s at
+  unfolding job_at after_name
   job_is {a} e h = rw (← e, ne_eqb a 0 h) refl
 
 -- a job that was read has a name; its numbers are below the bound, and its line has four bytes or more after the name
 pub record Kept (s : List ℕ) (at c t a : ℕ) : Type 0 where
-  pub named : nameEnd s comma at ≡ 0 → ⊥
-  pub numbers : pairBy nanosBound comma s (nameEnd s comma at) ≡ Two c t a
-  pub cost : c < nanosBound
-  pub period : t < nanosBound
-  pub ahead : nameEnd s comma at + 4 ≤ a
+  pub named : name_end s comma at ≡ 0 → ⊥
+  pub numbers : pair_by nanos_bound comma s (name_end s comma at) ≡ Two c t a
+  pub cost : c < nanos_bound
+  pub period : t < nanos_bound
+  pub ahead : name_end s comma at + 4 ≤ a
   pub further : at + 6 ≤ a
 
-pub job-kept : (s : List ℕ) (at c t a : ℕ) → jobAt s at ≡ Two c t a → Kept s at c t a
-job-kept s at c t a e = by_cases (eqb (nameEnd s comma at) 0) (λ p. absurd (bare (eqb-true _ 0 p))) (λ p. good (eqb-false _ 0 p))
+pub job_kept : (s : List ℕ) (at c t a : ℕ) → job_at s at ≡ Two c t a → Kept s at c t a
+job_kept s at c t a e = by_cases (eqb (name_end s comma at) 0) (λ p. absurd (bare (eqb-true _ 0 p))) (λ p. good (eqb-false _ 0 p))
   where
-    bare : nameEnd s comma at ≡ 0 → ⊥
-    bare p = no-pair (job-none s at p ∙ e)
+    bare : name_end s comma at ≡ 0 → ⊥
+    bare p = no_pair (job_none s at p ∙ e)
 
-    good : (nameEnd s comma at ≡ 0 → ⊥) → Kept s at c t a
+    good : (name_end s comma at ≡ 0 → ⊥) → Kept s at c t a
     good h =
         let q = job_is s at refl h ∙ e in
-        let k = pair-by-kept nanosBound comma s (nameEnd s comma at) c t a (omega arith) q in
+        let k = pair_by_kept nanos_bound comma s (name_end s comma at) c t a (omega arith) q in
         record {
           named = h;
           numbers = q;
           cost = k.0;
           period = k.1;
           ahead = k.2;
-          further = omega (arith, k.2, name-ahead s comma at h);
+          further = omega (arith, k.2, name_ahead s comma at h);
         }
 
 -- a later place gives the same jobs, the rest of them
 then_same : (at : ℕ) (n : List ℕ) (p : Pair) {f g : ℕ → List Job} → ((c t next : ℕ) → p ≡ Two c t next → f next ≡ g next)
-    → thenJobs f n p ≡ thenJobs g n p
-unfolding thenJobs
+    → then_jobs f n p ≡ then_jobs g n p
+unfolding then_jobs
 then_same at n (Two c t next) h = ap (λ (js : List Job). job n c t ∷ js) (h c t next refl)
 then_same at n NoPair h = refl
 
 -- past the end there is none
-past : (s : List ℕ) (f at : ℕ) → length s ≤ at → jobsFrom f s at ≡ []
-unfolding jobsFrom
+past : (s : List ℕ) (f at : ℕ) → length s ≤ at → jobs_from f s at ≡ []
+unfolding jobs_from
 past s zero at h = refl
 past s (suc f) at h = rw (le-ltb at (length s) h) refl
 
 -- any count of steps that is enough gives the same jobs
-enough : (s : List ℕ) (f g at : ℕ) → length s ≤ at + f → length s ≤ at + g → jobsFrom f s at ≡ jobsFrom g s at
-unfolding jobsFrom
+enough : (s : List ℕ) (f g at : ℕ) → length s ≤ at + f → length s ≤ at + g → jobs_from f s at ≡ jobs_from g s at
+unfolding jobs_from
 enough s zero g at h k = sym (past s g at (omega arith))
 enough s (suc f) zero at h k = past s (suc f) at (omega arith)
 enough s (suc f) (suc g) at h k =
     by_cases (ltb at (length s))
-    (λ e. rw e (then_same at (name_at s at) (jobAt s at)
-    (λ c t next p. let q = (job-kept s at c t next p).further in enough s f g next (omega (arith, q)) (omega (arith, q)))))
+    (λ e. rw e (then_same at (name_at s at) (job_at s at)
+    (λ c t next p. let q = (job_kept s at c t next p).further in enough s f g next (omega (arith, q)) (omega (arith, q)))))
     (λ e. rw e refl)
 
 -- the jobs from a place on
-abbrev pub jobsAt : List ℕ → ℕ → List Job
-jobsAt s at = jobsFrom (length s) s at
+abbrev pub jobs_at : List ℕ → ℕ → List Job
+jobs_at s at = jobs_from (length s) s at
 
 module _ (s : List ℕ) (at : ℕ) where
   -- at the end there is none
-  pub jobs-end : length s ≤ at → jobsAt s at ≡ []
-  jobs-end h = past s (length s) at h
+  pub jobs_end : length s ≤ at → jobs_at s at ≡ []
+  jobs_end h = past s (length s) at h
 
   module _ (inside : at < length s) where
-    step : jobsAt s at ≡ thenJobs (λ next. jobsAt s next) (name_at s at) (jobAt s at)
-    unfolding jobsFrom
+    step : jobs_at s at ≡ then_jobs (λ next. jobs_at s next) (name_at s at) (job_at s at)
+    unfolding jobs_from
     step = enough s (length s) (suc (length s)) at (omega arith) (omega arith) ∙ rw (lt-ltb at (length s) inside) refl
 
     -- none where the line cannot be read
-    pub jobs-none : jobAt s at ≡ NoPair → jobsAt s at ≡ []
-    unfolding thenJobs
-    jobs-none e = step ∙ rw e refl
+    pub jobs_none : job_at s at ≡ NoPair → jobs_at s at ≡ []
+    unfolding then_jobs
+    jobs_none e = step ∙ rw e refl
 
     -- a job, then the later ones
-    pub jobs-next : {c t next : ℕ} → jobAt s at ≡ Two c t next → jobsAt s at ≡ job (name_at s at) c t ∷ jobsAt s next
-    unfolding thenJobs
-    jobs-next e = step ∙ rw e refl
+    pub jobs_next : {c t next : ℕ} → job_at s at ≡ Two c t next → jobs_at s at ≡ job (name_at s at) c t ∷ jobs_at s next
+    unfolding then_jobs
+    jobs_next e = step ∙ rw e refl

@@ -8,45 +8,45 @@ use lib.ListN.{length, take, drop, length-append}
 use Rattle.writing.specs.Ascii.{newline}
 use Rattle.writing.specs.Wrote.{Wrote}
 use Rattle.writing.proofs.Wrote.{none, then, recast}
-use Rattle.names.specs.Name.{name_at, nameEnd}
-use Rattle.name_list.specs.Names.{namesText}
-use Rattle.names.proofs.Written.{name-read}
+use Rattle.names.specs.Name.{name_at, name_end}
+use Rattle.name_list.specs.Names.{names_text}
+use Rattle.names.proofs.Written.{name_read}
 use Rattle.names.proofs.Parts.{parted}
 use Rattle.scanning.specs.declared.line.Pair.TheVariants.{Two, NoPair}
-use Rattle.sheet_text.specs.Job.{Job, comma, nameLine, jobAt, namesIn}
-use Rattle.sheet_text.proofs.Jobs.{jobsAt, job-kept, jobs-end, jobs-none, jobs-next}
+use Rattle.sheet_text.specs.Job.{Job, comma, name_line, job_at, names_in}
+use Rattle.sheet_text.proofs.Jobs.{jobs_at, job_kept, jobs_end, jobs_none, jobs_next}
 
 module _ (s : List ℕ) (at : ℕ) where
   -- no name has no line
-  pub line-none : nameEnd s comma at ≡ 0 → [] ≡ nameLine s at
-  unfolding nameLine
-  line-none e = rw e refl
+  pub line_none : name_end s comma at ≡ 0 → [] ≡ name_line s at
+  unfolding name_line
+  line_none e = rw e refl
 
   -- a name's line is the name and a newline
-  pub line-is : (nameEnd s comma at ≡ 0 → ⊥) → name_at s at ++ newline ∷ [] ≡ nameLine s at
-  unfolding nameLine
-  line-is h = rw (ne_eqb (nameEnd s comma at) 0 h) refl
+  pub line_is : (name_end s comma at ≡ 0 → ⊥) → name_at s at ++ newline ∷ [] ≡ name_line s at
+  unfolding name_line
+  line_is h = rw (ne_eqb (name_end s comma at) 0 h) refl
 
 -- the part of the text up to the comma, and a newline
-part-is : (s : List ℕ) (at next : ℕ) → next ≡ nameEnd s comma at → (next ≡ 0 → ⊥) → take (next - 1 - at) (drop at s) ++ newline ∷ [] ≡ nameLine s at
-part-is s at next e h =
-    ap (λ (n : List ℕ). n ++ newline ∷ []) (parted s comma at next (omega arith) e h).is ∙ line-is s at (λ z. h (e ∙ z))
+part_is : (s : List ℕ) (at next : ℕ) → next ≡ name_end s comma at → (next ≡ 0 → ⊥) → take (next - 1 - at) (drop at s) ++ newline ∷ [] ≡ name_line s at
+part_is s at next e h =
+    ap (λ (n : List ℕ). n ++ newline ∷ []) (parted s comma at next (omega arith) e h).is ∙ line_is s at (λ z. h (e ∙ z))
 
 -- that part and the byte after it, a newline, are stored as the name's line
-pub line-stored : (s : List ℕ) (at next : ℕ) {before between after : List ℕ} {from end k b : ℕ} → next ≡ nameEnd s comma at → (next ≡ 0 → ⊥)
+pub line_stored : (s : List ℕ) (at next : ℕ) {before between after : List ℕ} {from end k b : ℕ} → next ≡ name_end s comma at → (next ≡ 0 → ⊥)
     → Wrote before from (take (next - 1 - at) (drop at s)) between end → Wrote between end (b ∷ []) after k → b ≡ newline
-    → Wrote before from (nameLine s at) after k
-line-stored s at next e h t n f = recast (part-is s at next e h) (then t (rw f at n))
+    → Wrote before from (name_line s at) after k
+line_stored s at next e h t n f = recast (part_is s at next e h) (then t (rw f at n))
 
 -- the names of the jobs from a place on
-abbrev pub namesFrom : List ℕ → ℕ → List ℕ
-namesFrom s at = namesText (namesIn (jobsAt s at))
+abbrev pub names_from : List ℕ → ℕ → List ℕ
+names_from s at = names_text (names_in (jobs_at s at))
 
 -- while names are stored: those before a place are, and with those that are left they make up the whole
 pub record Naming (s : List ℕ) (from : ℕ) (before now : List ℕ) (at end : ℕ) : Type 0 where
   pub done : List ℕ
   pub wrote : Wrote before 0 done now end
-  pub left : done ++ namesFrom s at ≡ namesFrom s from
+  pub left : done ++ names_from s at ≡ names_from s from
   pub short : end ≤ at
 
 -- at first none is
@@ -55,31 +55,31 @@ begun s from l = record { done = []; wrote = none l 0; left = refl; short = omeg
 
 module _ {s : List ℕ} {from : ℕ} {before now : List ℕ} {at end : ℕ} (h : Naming s from before now at end) where
   -- one more
-  pub onward : {l : List ℕ} {c t next k : ℕ} → at < length s → jobAt s at ≡ Two c t next → Wrote now end (nameLine s at) l k
+  pub onward : {l : List ℕ} {c t next k : ℕ} → at < length s → job_at s at ≡ Two c t next → Wrote now end (name_line s at) l k
       → Naming s from before l next k
   onward {l} {c} {t} {next} {k} i p w =
-      let q = job-kept s at c t next p in
-      let r = name-read s comma at (omega arith) q.named in
-      let e = line-is s at q.named in
-      let n : nameLine s at ++ namesFrom s next ≡ namesFrom s at =
-      ap (λ (z : List ℕ). z ++ namesFrom s next) (sym e)
-      ∙ append_assoc (name_at s at) (newline ∷ []) (namesFrom s next)
-      ∙ ap (λ (js : List Job). namesText (namesIn js)) (sym (jobs-next s at i p)) in
+      let q = job_kept s at c t next p in
+      let r = name_read s comma at (omega arith) q.named in
+      let e = line_is s at q.named in
+      let n : name_line s at ++ names_from s next ≡ names_from s at =
+      ap (λ (z : List ℕ). z ++ names_from s next) (sym e)
+      ∙ append_assoc (name_at s at) (newline ∷ []) (names_from s next)
+      ∙ ap (λ (js : List Job). names_text (names_in js)) (sym (jobs_next s at i p)) in
       record {
-        done = h.done ++ nameLine s at;
+        done = h.done ++ name_line s at;
         wrote = then h.wrote w;
-        left = append_assoc h.done (nameLine s at) (namesFrom s next) ∙ ap (λ (z : List ℕ). h.done ++ z) n ∙ h.left;
+        left = append_assoc h.done (name_line s at) (names_from s next) ∙ ap (λ (z : List ℕ). h.done ++ z) n ∙ h.left;
         short = omega (arith, h.short, w.end, ap length e, length-append (name_at s at) (newline ∷ []), r.1, q.ahead);
       }
 
   -- with no more jobs all are
-  all : jobsAt s at ≡ [] → Wrote before 0 (namesFrom s from) now end
-  all e = recast (sym (append-nil h.done) ∙ ap (λ (js : List Job). h.done ++ namesText (namesIn js)) (sym e) ∙ h.left) h.wrote
+  all : jobs_at s at ≡ [] → Wrote before 0 (names_from s from) now end
+  all e = recast (sym (append-nil h.done) ∙ ap (λ (js : List Job). h.done ++ names_text (names_in js)) (sym e) ∙ h.left) h.wrote
 
   -- at the end of the sheet there are no more
-  pub ended : length s ≤ at → Wrote before 0 (namesFrom s from) now end
-  ended k = all (jobs-end s at k)
+  pub ended : length s ≤ at → Wrote before 0 (names_from s from) now end
+  ended k = all (jobs_end s at k)
 
   -- nor where a line cannot be read
-  pub stopped : at < length s → jobAt s at ≡ NoPair → Wrote before 0 (namesFrom s from) now end
-  stopped k e = all (jobs-none s at k e)
+  pub stopped : at < length s → job_at s at ≡ NoPair → Wrote before 0 (names_from s from) now end
+  stopped k e = all (jobs_none s at k e)

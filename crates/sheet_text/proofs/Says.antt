@@ -10,127 +10,127 @@ use lib.Dec.{ltb, leb}
 use lib.ListN.{length, get_or, take, drop, length-append, length-drop}
 use lib.Seq.{sets, take_at}
 use Rattle.lists.proofs.Tests.{and_left, and_right}
-use Rattle.units.specs.Refusals.{sheetNo, nameNo, tickNo}
+use Rattle.units.specs.Refusals.{sheet_no, name_no, tick_no}
 use Rattle.writing.specs.Ascii.{newline}
-use Rattle.writing.specs.Decimal.{decimalOf}
+use Rattle.writing.specs.Decimal.{decimal_of}
 use Rattle.writing.specs.Wrote.{Wrote}
 use Rattle.writing.proofs.Wrote.{whole}
 use Rattle.scanning.specs.declared.number.Number.TheVariants.{Value, NoNumber}
 use Rattle.names.specs.Name.{Name}
-use Rattle.name_list.specs.Names.{namesText, twice, names_of}
-use Rattle.name_list.proofs.Lists.{All, names-back}
-use Rattle.tick_length.specs.Ticks.{tickIn, tickLimit}
+use Rattle.name_list.specs.Names.{names_text, twice, names_of}
+use Rattle.name_list.proofs.Lists.{All, names_back}
+use Rattle.tick_length.specs.Ticks.{tick_in, tick_limit}
 use Rattle.tick_length.specs.Inner.{held}
-use Rattle.sheet_text.specs.Job.{Job, none, also, comma, badJob, namesIn, ticksIn}
-use Rattle.sheet_text.specs.Grammar.{AllGood, jobsWritten}
-use Rattle.sheet_text.specs.Sheet.{Said, says, refusedBy, sheetLimit, tickLine, named, jobsSaid, afterTick, sheetOf, table_of, end_of, answer_of}
+use Rattle.sheet_text.specs.Job.{Job, none, also, comma, bad_job, names_in, ticks_in}
+use Rattle.sheet_text.specs.Grammar.{AllGood, jobs_written}
+use Rattle.sheet_text.specs.Sheet.{Said, says, refused_by, sheet_limit, tick_line, named, jobs_said, after_tick, sheet_of, table_of, end_of, answer_of}
 use Rattle.sheet_text.specs.declared.sheet.Reading.{Reading}
 use Rattle.sheet_text.specs.declared.sheet.Reading.TheVariants.{Read, Refused}
-use Rattle.sheet_text.proofs.Jobs.{jobsAt}
-use Rattle.sheet_text.proofs.Written.{job-then, jobs-read}
+use Rattle.sheet_text.proofs.Jobs.{jobs_at}
+use Rattle.sheet_text.proofs.Written.{job_then, jobs_read}
 
 -- the names of good jobs are names
-pub good-names : {js : List Job} → AllGood js → All Name (namesIn js)
-good-names none i h = absurd (omega arith)
-good-names (also g gs) zero h = g.name
-good-names (also g gs) (suc i) h = good-names gs i (omega arith)
+pub good_names : {js : List Job} → AllGood js → All Name (names_in js)
+good_names none i h = absurd (omega arith)
+good_names (also g gs) zero h = g.name
+good_names (also g gs) (suc i) h = good_names gs i (omega arith)
 
 -- the names alone are no longer than the lines
-names-shorter : (js : List Job) → length (namesText (namesIn js)) ≤ length (jobsWritten js)
-names-shorter [] = omega arith
-names-shorter (j ∷ js) =
-    let end = decimalOf j.period ++ newline ∷ jobsWritten js in
-    let numbers = decimalOf j.cost ++ comma ∷ end in
-    let a : length (namesText (namesIn (j ∷ js))) ≡ length j.name + suc (length (namesText (namesIn js))) =
-    length-append j.name (newline ∷ namesText (namesIn js)) in
-    let b : length (jobsWritten (j ∷ js)) ≡ length j.name + suc (length numbers) =
-    ap length (job-then j (jobsWritten js)) ∙ length-append j.name (comma ∷ numbers) in
-    let c : length numbers ≡ length (decimalOf j.cost) + suc (length end) = length-append (decimalOf j.cost) (comma ∷ end) in
-    let d : length end ≡ length (decimalOf j.period) + suc (length (jobsWritten js)) = length-append (decimalOf j.period) (newline ∷ jobsWritten js) in
-    omega (arith, names-shorter js, a, b, c, d)
+names_shorter : (js : List Job) → length (names_text (names_in js)) ≤ length (jobs_written js)
+names_shorter [] = omega arith
+names_shorter (j ∷ js) =
+    let end = decimal_of j.period ++ newline ∷ jobs_written js in
+    let numbers = decimal_of j.cost ++ comma ∷ end in
+    let a : length (names_text (names_in (j ∷ js))) ≡ length j.name + suc (length (names_text (names_in js))) =
+    length-append j.name (newline ∷ names_text (names_in js)) in
+    let b : length (jobs_written (j ∷ js)) ≡ length j.name + suc (length numbers) =
+    ap length (job_then j (jobs_written js)) ∙ length-append j.name (comma ∷ numbers) in
+    let c : length numbers ≡ length (decimal_of j.cost) + suc (length end) = length-append (decimal_of j.cost) (comma ∷ end) in
+    let d : length end ≡ length (decimal_of j.period) + suc (length (jobs_written js)) = length-append (decimal_of j.period) (newline ∷ jobs_written js) in
+    omega (arith, names_shorter js, a, b, c, d)
 
 -- a text that was written from the start of a buffer that holds it is the part up to its end
-pub part-is : {a b xs : List ℕ} {k : ℕ} → Wrote a 0 xs b k → length xs ≤ length a → take (k - 0) b ≡ xs
-part-is {a} {b} {xs} {k} w h =
+pub part_is : {a b xs : List ℕ} {k : ℕ} → Wrote a 0 xs b k → length xs ≤ length a → take (k - 0) b ≡ xs
+part_is {a} {b} {xs} {k} w h =
     let e : k - 0 ≡ length xs = omega (arith, w.end) in
     ap₂ (λ (n : ℕ) (l : List ℕ). take n l) e (whole w h) ∙ take_at xs (drop (length xs) a) (length xs) refl
 
-module _ (s : List ℕ) (from : ℕ) (short : length s ≤ sheetLimit) (fine : badJob s from ≡ 0) where
+module _ (s : List ℕ) (from : ℕ) (short : length s ≤ sheet_limit) (fine : bad_job s from ≡ 0) where
   -- the names of a sheet fit a buffer of its length
-  pub names-fit : length (namesText (namesIn (jobsAt s from))) ≤ sheetLimit
-  names-fit = omega (arith, names-shorter (jobsAt s from), length-drop from s, ap length (jobs-read s from fine).1)
+  pub names_fit : length (names_text (names_in (jobs_at s from))) ≤ sheet_limit
+  names_fit = omega (arith, names_shorter (jobs_at s from), length-drop from s, ap length (jobs_read s from fine).1)
 
   -- what is told of them as a list is told of the jobs
-  pub told : {a b : List ℕ} {k : ℕ} {r : Bool} → Wrote a 0 (namesText (namesIn (jobsAt s from))) b k → sheetLimit ≤ length a
-      → r ≡ twice (names_of (take (k - 0) b)) → r ≡ twice (namesIn (jobsAt s from))
+  pub told : {a b : List ℕ} {k : ℕ} {r : Bool} → Wrote a 0 (names_text (names_in (jobs_at s from))) b k → sheet_limit ≤ length a
+      → r ≡ twice (names_of (take (k - 0) b)) → r ≡ twice (names_in (jobs_at s from))
   told {a} {b} {k} w h e =
-      e ∙ ap (λ (l : List ℕ). twice (names_of l)) (part-is w (omega (arith, names-fit)))
-      ∙ ap twice (names-back (namesIn (jobsAt s from)) (good-names (jobs-read s from fine).0)).1
+      e ∙ ap (λ (l : List ℕ). twice (names_of l)) (part_is w (omega (arith, names_fit)))
+      ∙ ap twice (names_back (names_in (jobs_at s from)) (good_names (jobs_read s from fine).0)).1
 
 -- what an answer gives of what a sheet says: the answer itself, and the table
 abbrev Gives : ℕ → Said → Reading → List ℕ → List ℕ → Type 0
 Gives from w r before after = (r ≡ answer_of from w) × (after ≡ sets before 0 (map held (table_of w)))
 
 -- a refused sheet changes no number
-pub gives-no : {w : Said} (from n : ℕ) (l : List ℕ) → w ≡ refusedBy n → Gives from w (Refused n) l l
+pub gives_no : {w : Said} (from n : ℕ) (l : List ℕ) → w ≡ refused_by n → Gives from w (Refused n) l l
 unfolding answer_of table_of
-gives-no from n l e = rw e (refl, refl)
+gives_no from n l e = rw e (refl, refl)
 
 -- another gives its numbers
-pub gives-jobs : {w : Said} (from tick n : ℕ) (js : List Job) (before after : List ℕ) → w ≡ says tick js → n ≡ length (ticksIn tick js)
-    → after ≡ sets before 0 (map held (ticksIn tick js)) → Gives from w (Read tick from n) before after
+pub gives_jobs : {w : Said} (from tick n : ℕ) (js : List Job) (before after : List ℕ) → w ≡ says tick js → n ≡ length (ticks_in tick js)
+    → after ≡ sets before 0 (map held (ticks_in tick js)) → Gives from w (Read tick from n) before after
 unfolding answer_of table_of
-gives-jobs from tick n js before after e f g = rw (e, f) (refl, g)
+gives_jobs from tick n js before after e f g = rw (e, f) (refl, g)
 
 -- what says the same gives the same
 pub gives_same : {v w : Said} {a b : ℕ} {r : Reading} (before : List ℕ) {after : List ℕ} → a ≡ b → v ≡ w → Gives b w r before after → Gives a v r before after
 gives_same before f e g = rw (f, e) g
 
 -- a tick length in range
-pub tick-range : (tick : ℕ) → tickIn tick ≡ true → (0 < tick) × (tick ≤ tickLimit)
-tick-range tick e = (ltb-true 0 tick (and_left _ _ e), leb-true tick tickLimit (and_right (ltb 0 tick) _ e))
+pub tick_range : (tick : ℕ) → tick_in tick ≡ true → (0 < tick) × (tick ≤ tick_limit)
+tick_range tick e = (ltb-true 0 tick (and_left _ _ e), leb-true tick tick_limit (and_right (ltb 0 tick) _ e))
 
 module _ (s : List ℕ) (tick at : ℕ) where
   -- 17: too long
-  pub jobs-long : sheetLimit < length s → jobsSaid s tick at ≡ refusedBy sheetNo
-  unfolding jobsSaid
-  jobs-long h = rw (lt-ltb sheetLimit (length s) h)
+  pub jobs_long : sheet_limit < length s → jobs_said s tick at ≡ refused_by sheet_no
+  unfolding jobs_said
+  jobs_long h = rw (lt-ltb sheet_limit (length s) h)
 
-  module _ (short : length s ≤ sheetLimit) {line : ℕ} (e : line ≡ badJob s at) where
+  module _ (short : length s ≤ sheet_limit) {line : ℕ} (e : line ≡ bad_job s at) where
     -- 17: a line that cannot be read
-    pub jobs-bad : (line ≡ 0 → ⊥) → jobsSaid s tick at ≡ refusedBy sheetNo
-    unfolding jobsSaid
-    jobs-bad h = rw (le-ltb sheetLimit (length s) short, ← e, ne_eqb line 0 h)
+    pub jobs_bad : (line ≡ 0 → ⊥) → jobs_said s tick at ≡ refused_by sheet_no
+    unfolding jobs_said
+    jobs_bad h = rw (le-ltb sheet_limit (length s) short, ← e, ne_eqb line 0 h)
 
-    module _ (fine : line ≡ 0) {r : Bool} (f : r ≡ twice (namesIn (jobsAt s at))) where
+    module _ (fine : line ≡ 0) {r : Bool} (f : r ≡ twice (names_in (jobs_at s at))) where
       -- 18: the same name twice
-      pub jobs-twice : r ≡ true → jobsSaid s tick at ≡ refusedBy nameNo
-      unfolding jobsSaid named
-      jobs-twice h = rw (le-ltb sheetLimit (length s) short, ← e, fine, ← f, h)
+      pub jobs_twice : r ≡ true → jobs_said s tick at ≡ refused_by name_no
+      unfolding jobs_said named
+      jobs_twice h = rw (le-ltb sheet_limit (length s) short, ← e, fine, ← f, h)
 
       -- the jobs
-      pub jobs-said : r ≡ false → jobsSaid s tick at ≡ says tick (jobsAt s at)
-      unfolding jobsSaid named
-      jobs-said h = rw (le-ltb sheetLimit (length s) short, ← e, fine, ← f, h)
+      pub jobs_said_lem : r ≡ false → jobs_said s tick at ≡ says tick (jobs_at s at)
+      unfolding jobs_said named
+      jobs_said_lem h = rw (le-ltb sheet_limit (length s) short, ← e, fine, ← f, h)
 
 module _ (s : List ℕ) where
   -- 19: the first line is no number
-  pub sheet-none : tickLine s ≡ NoNumber → sheetOf s ≡ refusedBy tickNo
-  unfolding sheetOf afterTick
-  sheet-none e = rw e refl
+  pub sheet_none : tick_line s ≡ NoNumber → sheet_of s ≡ refused_by tick_no
+  unfolding sheet_of after_tick
+  sheet_none e = rw e refl
 
-  module _ {tick at : ℕ} (e : tickLine s ≡ Value tick at) where
+  module _ {tick at : ℕ} (e : tick_line s ≡ Value tick at) where
     -- 19: one out of range
-    pub sheet-out : tickIn tick ≡ false → sheetOf s ≡ refusedBy tickNo
-    unfolding sheetOf afterTick
-    sheet-out h = rw (e, h) refl
+    pub sheet_out : tick_in tick ≡ false → sheet_of s ≡ refused_by tick_no
+    unfolding sheet_of after_tick
+    sheet_out h = rw (e, h) refl
 
     -- the first line is a tick length
-    pub sheet-is : tickIn tick ≡ true → sheetOf s ≡ jobsSaid s tick at
-    unfolding sheetOf afterTick
-    sheet-is h = rw (e, h) refl
+    pub sheet_is : tick_in tick ≡ true → sheet_of s ≡ jobs_said s tick at
+    unfolding sheet_of after_tick
+    sheet_is h = rw (e, h) refl
 
     -- the jobs start after it
-    pub starts-at : end_of (tickLine s) ≡ at
+    pub starts_at : end_of (tick_line s) ≡ at
     unfolding end_of
-    starts-at = ap end_of e
+    starts_at = ap end_of e

@@ -1,12 +1,12 @@
 // The lines of the jobs, `name,cost,period`.
 ghost use Rattle.std.specs.Prelude.{◌≡◌, map, ◌+◌, ◌≤◌, ◌<◌, length};
 ghost use Rattle.std.proofs.lemmas.List.Edits.{sets};
-ghost use Rattle.name_list.specs.Names.{namesText};
+ghost use Rattle.name_list.specs.Names.{names_text};
 ghost use Rattle.tick_length.specs.Inner.{held};
-ghost use Rattle.writing.specs.Inner.{placeLimit};
+ghost use Rattle.writing.specs.Inner.{place_limit};
 ghost use Rattle.writing.specs.Wrote.{Wrote};
-ghost use Rattle.sheet_text.specs.Job.{jobAt, nameLine, badJob, jobsFrom, namesIn, ticksIn};
-ghost use Rattle.sheet_text.specs.Sheet.{sheetLimit};
+ghost use Rattle.sheet_text.specs.Job.{job_at, name_line, bad_job, jobs_from, names_in, ticks_in};
+ghost use Rattle.sheet_text.specs.Sheet.{sheet_limit};
 
 use lent_numbers::store;
 use names::name::name_end;
@@ -21,7 +21,7 @@ pub(crate) const BOUND: u64 = 1_000_000_000_000_000;
 
 // Cost and period of the job at a place, and the place after its line.
 fn read_job(sheet: &[u8], at: usize) -> Pair
-    ensures { result ≡ jobAt sheet.now at }
+    ensures { result ≡ job_at sheet.now at }
 {
     let next = name_end(sheet, at, COMMA);
     if next == 0 {
@@ -32,7 +32,7 @@ fn read_job(sheet: &[u8], at: usize) -> Pair
 
 // The first unreadable line of jobs that start with the sheet's second line, 0 if there is none.
 pub(crate) fn first_unreadable(sheet: &[u8], from: usize) -> usize
-    ensures { result ≡ badJob sheet.now from }
+    ensures { result ≡ bad_job sheet.now from }
 {
     let mut at = from;
     let mut line = 2;
@@ -53,9 +53,9 @@ pub(crate) fn first_unreadable(sheet: &[u8], from: usize) -> usize
 // Stores the ticks of the jobs from a place on, as far as the table reaches, and answers how many numbers they are.
 pub(crate) fn store_ticks(sheet: &[u8], from: usize, tick: u64, table: &mut [u32]) -> usize
     requires { 0 < tick }
-    ensures value { result ≡ length (ticksIn tick (jobsFrom (length sheet.now) sheet.now from)) }
+    ensures value { result ≡ length (ticks_in tick (jobs_from (length sheet.now) sheet.now from)) }
     ensures table_after { table.new
-        ≡ sets table.old 0 (map held (ticksIn tick (jobsFrom (length sheet.now) sheet.now from))) }
+        ≡ sets table.old 0 (map held (ticks_in tick (jobs_from (length sheet.now) sheet.now from))) }
 {
     let mut at = from;
     let mut i = 0;
@@ -79,8 +79,8 @@ pub(crate) fn store_ticks(sheet: &[u8], from: usize, tick: u64, table: &mut [u32
 
 // Stores the name of the job at a place, a line, where there is one.
 fn put_name(sheet: &[u8], at: usize, buf: &mut [u8], end: usize) -> usize
-    requires { end + 13 ≤ placeLimit }
-    ensures { Wrote buf.old end (nameLine sheet.now at) buf.new result }
+    requires { end + 13 ≤ place_limit }
+    ensures { Wrote buf.old end (name_line sheet.now at) buf.new result }
 {
     let next = name_end(sheet, at, COMMA);
     if next == 0 {
@@ -92,8 +92,8 @@ fn put_name(sheet: &[u8], at: usize, buf: &mut [u8], end: usize) -> usize
 
 // Stores the names of the jobs from a place on, a name a line, as far as the buffer reaches, and answers their length.
 pub fn put_names(sheet: &[u8], from: usize, buf: &mut [u8]) -> usize
-    requires { length sheet.now ≤ sheetLimit }
-    ensures { Wrote buf.old 0 (namesText (namesIn (jobsFrom (length sheet.now) sheet.now from))) buf.new result }
+    requires { length sheet.now ≤ sheet_limit }
+    ensures { Wrote buf.old 0 (names_text (names_in (jobs_from (length sheet.now) sheet.now from))) buf.new result }
 {
     let mut at = from;
     let mut end = 0;

@@ -2,10 +2,10 @@
 ghost use Rattle.std.specs.Prelude.{true, ◌≡◌, map, ◌≤◌, length};
 ghost use Rattle.std.proofs.lemmas.List.Edits.{sets};
 ghost use Rattle.name_list.specs.Names.{twice};
-ghost use Rattle.tick_length.specs.Ticks.{tickIn};
+ghost use Rattle.tick_length.specs.Ticks.{tick_in};
 ghost use Rattle.tick_length.specs.Inner.{held};
-ghost use Rattle.sheet_text.specs.Job.{badJob, jobsFrom, namesIn};
-ghost use Rattle.sheet_text.specs.Sheet.{sheetLimit, tickLine, jobsSaid, sheetOf, table_of, end_of, answer_of};
+ghost use Rattle.sheet_text.specs.Job.{bad_job, jobs_from, names_in};
+ghost use Rattle.sheet_text.specs.Sheet.{sheet_limit, tick_line, jobs_said, sheet_of, table_of, end_of, answer_of};
 
 use crate::job::{BOUND, first_unreadable, put_names, store_ticks};
 use name_list::name_twice;
@@ -31,8 +31,8 @@ pub enum Reading {
 
 // Whether jobs have the same name twice.
 fn named_twice(sheet: &[u8], from: usize) -> bool
-    requires { (length sheet.now ≤ sheetLimit) × (badJob sheet.now from ≡ 0) }
-    ensures { result ≡ twice (namesIn (jobsFrom (length sheet.now) sheet.now from)) }
+    requires { (length sheet.now ≤ sheet_limit) × (bad_job sheet.now from ≡ 0) }
+    ensures { result ≡ twice (names_in (jobs_from (length sheet.now) sheet.now from)) }
 {
     let mut names = [0u8; SHEET];
     let n = put_names(sheet, from, &mut names);
@@ -41,9 +41,9 @@ fn named_twice(sheet: &[u8], from: usize) -> bool
 
 // The jobs from a place on, stored only if each of their lines can be read and no name stands there twice.
 fn read_jobs(sheet: &[u8], tick: u64, from: usize, table: &mut [u32]) -> Reading
-    requires { tickIn tick ≡ true }
-    ensures value { result ≡ answer_of from (jobsSaid sheet.now tick from) }
-    ensures table_after { table.new ≡ sets table.old 0 (map held (table_of (jobsSaid sheet.now tick from))) }
+    requires { tick_in tick ≡ true }
+    ensures value { result ≡ answer_of from (jobs_said sheet.now tick from) }
+    ensures table_after { table.new ≡ sets table.old 0 (map held (table_of (jobs_said sheet.now tick from))) }
 {
     if SHEET < sheet.len() {
         return Reading::Refused(Refusal::SHEET);
@@ -65,8 +65,8 @@ fn read_jobs(sheet: &[u8], tick: u64, from: usize, table: &mut [u32]) -> Reading
 
 // What a sheet says. Its ticks are stored in the table as far as that reaches; a refused sheet changes none.
 pub fn read_sheet(sheet: &[u8], table: &mut [u32]) -> Reading
-    ensures value { result ≡ answer_of (end_of (tickLine sheet.now)) (sheetOf sheet.now) }
-    ensures table_after { table.new ≡ sets table.old 0 (map held (table_of (sheetOf sheet.now))) }
+    ensures value { result ≡ answer_of (end_of (tick_line sheet.now)) (sheet_of sheet.now) }
+    ensures table_after { table.new ≡ sets table.old 0 (map held (table_of (sheet_of sheet.now))) }
 {
     match read_field(sheet, 0, BOUND, NEWLINE) {
         Number::NoNumber => Reading::Refused(Refusal::TICK),

@@ -3,5 +3,5 @@ use mathlib.Core.Path.{sym, ◌∙◌}
 use Rattle.lists.specs.Settled.{SettledLent}
 use Rattle.sheet_writing.proofs.write_sheet.Reads as WriteSheet
 
-pub write-sheet : SettledLent (λ κs e. e.1.1.1.1.0.now) WriteSheet.Post
-write-sheet κs a x y e f p q = (p.0 ∙ sym q.0, p.1 ∙ sym q.1)
+pub write_sheet_lem : SettledLent (λ κs e. e.1.1.1.1.0.now) WriteSheet.Post
+write_sheet_lem κs a x y e f p q = (p.0 ∙ sym q.0, p.1 ∙ sym q.1)

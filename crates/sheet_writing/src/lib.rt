@@ -1,14 +1,14 @@
 // Writing a table as the office's sheet: its ticks times the tick length.
 ghost use Rattle.std.specs.Prelude.{◌≡◌, ◌*◌, ◌+◌, ◌≤◌, length};
-ghost use Rattle.units.specs.Limits.{tasksLimit};
+ghost use Rattle.units.specs.Limits.{tasks_limit};
 ghost use Rattle.units.specs.Refusals.{refusal as refusalOf};
 ghost use Rattle.admission.specs.Refusals.{◌orElse◌};
-ghost use Rattle.name_list.specs.Names.{names_of, namesSaid};
-ghost use Rattle.writing.specs.Inner.{placeLimit};
+ghost use Rattle.name_list.specs.Names.{names_of, names_said};
+ghost use Rattle.writing.specs.Inner.{place_limit};
 ghost use Rattle.writing.specs.Wrote.{Wrote};
 ghost use Rattle.sheet_text.specs.Job.{job};
-ghost use Rattle.sheet_text.specs.Grammar.{jobWritten};
-ghost use Rattle.sheet_writing.specs.Write.{countTest, twiceTest, writeRefusal, sheetFor, fitted, fittedAfter, written_of, writtenAfter};
+ghost use Rattle.sheet_text.specs.Grammar.{job_written};
+ghost use Rattle.sheet_writing.specs.Write.{count_test, twice_test, write_refusal, sheet_for, fitted, fitted_after, written_of, written_after};
 
 use admission::admit::admit;
 use name_list::{Names, name_twice, read_names};
@@ -26,8 +26,8 @@ pub struct Written {
 
 // A job's line: its numbers are ticks.
 fn put_job(buf: &mut [u8], at: usize, name: &[u8], cost: u32, period: u32, tick: u32) -> usize
-    requires { (at + 60 ≤ placeLimit) × (length name.now ≤ 12) }
-    ensures wrote { Wrote buf.old at (jobWritten (job name.now (cost * tick) (period * tick))) buf.new result }
+    requires { (at + 60 ≤ place_limit) × (length name.now ≤ 12) }
+    ensures wrote { Wrote buf.old at (job_written (job name.now (cost * tick) (period * tick))) buf.new result }
     ensures upper_bound { result ≤ at + 60 }
 {
     let a = put_text(buf, at, name);
@@ -38,8 +38,8 @@ fn put_job(buf: &mut [u8], at: usize, name: &[u8], cost: u32, period: u32, tick:
 
 // The sheet of a table and its names.
 fn put_sheet(buf: &mut [u8], table: &[u32], names: &[u8], tick: u32) -> usize
-    requires { length table.now ≤ 2 * tasksLimit }
-    ensures { Wrote buf.old 0 (sheetFor table.now names.now tick) buf.new result }
+    requires { length table.now ≤ 2 * tasks_limit }
+    ensures { Wrote buf.old 0 (sheet_for table.now names.now tick) buf.new result }
 {
     let first = put_number(buf, 0, tick as u64);
     let mut end = put_byte(buf, first, NEWLINE);
@@ -61,7 +61,7 @@ fn put_sheet(buf: &mut [u8], table: &[u32], names: &[u8], tick: u32) -> usize
 
 // 17 and 18: each line is a name, there is one for each task, and none stands twice.
 fn names_refusal(names: &[u8], tasks: usize) -> u32
-    ensures { refusalOf result 0 ≡ (countTest tasks (namesSaid names.now) or_else twiceTest (names_of names.now)) }
+    ensures { refusalOf result 0 ≡ (count_test tasks (names_said names.now) or_else twice_test (names_of names.now)) }
 {
     match read_names(names) {
         Names::Unreadable => Refusal::SHEET,
@@ -79,7 +79,7 @@ fn names_refusal(names: &[u8], tasks: usize) -> u32
 
 // The first refusal that applies, but for 14.
 fn write_refusal(cores: u32, table: &[u32], names: &[u8], tick: u32) -> Refusal
-    ensures { result ≡ writeRefusal cores table.now names.now tick }
+    ensures { result ≡ write_refusal cores table.now names.now tick }
 {
     if !tick_in(tick as u64) {
         return Refusal {
@@ -97,9 +97,9 @@ fn write_refusal(cores: u32, table: &[u32], names: &[u8], tick: u32) -> Refusal
 
 // A sheet that nothing but a short buffer refuses: a first run on a buffer of one byte finds its length.
 fn write_taken(table: &[u32], names: &[u8], tick: u32, buf: &mut [u8]) -> Written
-    requires { length table.now ≤ 2 * tasksLimit }
-    ensures value { result ≡ fitted (sheetFor table.now names.now tick) (length buf.old) }
-    ensures buf_after { buf.new ≡ fittedAfter (sheetFor table.now names.now tick) buf.old }
+    requires { length table.now ≤ 2 * tasks_limit }
+    ensures value { result ≡ fitted (sheet_for table.now names.now tick) (length buf.old) }
+    ensures buf_after { buf.new ≡ fitted_after (sheet_for table.now names.now tick) buf.old }
 {
     let mut one = [0u8; 1];
     let need = put_sheet(&mut one, table, names, tick);
@@ -122,7 +122,7 @@ fn write_taken(table: &[u32], names: &[u8], tick: u32, buf: &mut [u8]) -> Writte
 // A table as a sheet in a lent buffer: its length, or the refusal and no byte changed.
 pub fn write_sheet(cores: u32, table: &[u32], names: &[u8], tick: u32, buf: &mut [u8]) -> Written
     ensures value { result ≡ written_of cores table.now names.now tick (length buf.old) }
-    ensures buf_after { buf.new ≡ writtenAfter cores table.now names.now tick buf.old }
+    ensures buf_after { buf.new ≡ written_after cores table.now names.now tick buf.old }
 {
     let refusal = write_refusal(cores, table, names, tick);
     if refusal.no != 0 {

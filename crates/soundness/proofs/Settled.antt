@@ -3,5 +3,5 @@ use mathlib.Core.Path.{sym, ◌∙◌}
 use Rattle.lists.specs.Settled.{Settled}
 use Rattle.soundness.proofs.plan.plan_sound.Reads as PlanSound
 
-pub plan-sound : Settled PlanSound.Post
-plan-sound κs a x y e f p q = p ∙ sym q
+pub plan_sound_lem : Settled PlanSound.Post
+plan_sound_lem κs a x y e f p q = p ∙ sym q

@@ -10,143 +10,143 @@ use lib.Dec.{eqb}
 use lib.ListN.{length, get_or, take, drop, length-map, drop_of_length-le, get_or-map}
 use lib.Seq.{drop-cons, get_or-take, length-take-le}
 use borrow.Author.Tests.{eqb-true, eqb-false, eq-eqb, lt-ltb, le-ltb}
-use Rattle.units.specs.Limits.{tasksLimit}
-use Rattle.lists.proofs.Tests.{by_cases, and_right, and-true, same_bool}
+use Rattle.units.specs.Limits.{tasks_limit}
+use Rattle.lists.proofs.Tests.{by_cases, and_right, and_true, same_bool}
 use Rattle.arith.specs.Divisor.{gcd}
 use Rattle.arith.specs.Period.{common}
-use Rattle.arith.proofs.Euclid.{gcd-right}
-use Rattle.arith.proofs.Common.{Each, common-each}
-use Rattle.arith.proofs.Cofactor.{gcdAll, cofactors, cofactor-common, common-cofactor}
+use Rattle.arith.proofs.Euclid.{gcd_right}
+use Rattle.arith.proofs.Common.{Each, common_each}
+use Rattle.arith.proofs.Cofactor.{gcd_all, cofactors, cofactor_common, common_cofactor}
 use Rattle.planning.specs.declared.Line.{Line}
 use Rattle.planning.specs.declared.Plan.{Plan}
-use Rattle.planning.specs.Plan.{noLine}
-use Rattle.soundness.specs.Rules.{commonIs, lineEmpty}
+use Rattle.planning.specs.Plan.{no_line}
+use Rattle.soundness.specs.Rules.{common_is, line_empty}
 use Rattle.lists.specs.Below.{all_below}
-use Rattle.soundness.specs.Plan.{lineSound, lineOk}
-use Rattle.soundness.specs.Inner.{divisorWith}
-use Rattle.lists.proofs.Below.{all-suc}
+use Rattle.soundness.specs.Plan.{line_sound, line_ok}
+use Rattle.soundness.specs.Inner.{divisor_with}
+use Rattle.lists.proofs.Below.{all_suc}
 use Rattle.soundness.proofs.Numbers.{Numbers}
 
 -- a period that divides L: its quotient is joined to the others
-joined : (g l t : ℕ) → (divisorWith g l t ≡ 0 → ⊥) → (t ∣ l) × (divisorWith g l t ≡ gcd g (l / t))
+joined : (g l t : ℕ) → (divisor_with g l t ≡ 0 → ⊥) → (t ∣ l) × (divisor_with g l t ≡ gcd g (l / t))
 joined g l t z =
     by_cases (eqb (l % t) 0)
     (λ u. (dvd_of_mod-eq-zero t (eqb-true (l % t) 0 u), rw u))
     (λ u. absurd (z (rw u)))
 
 -- nothing but 0 divides a quotient of 0
-parted : (g l t : ℕ) → t ∣ l → divisorWith g l t ≡ 0 → l ≡ 0
+parted : (g l t : ℕ) → t ∣ l → divisor_with g l t ≡ 0 → l ≡ 0
 parted g l t d e =
     let z : gcd g (l / t) ≡ 0 = rw (eq-eqb (l % t) 0 (mod-eq-zero_of_dvd t d)) at e in
-    let q : l / t ≡ 0 = eq-zero_of_zero-dvd (rw z at (gcd-right g (l / t))) in
+    let q : l / t ≡ 0 = eq-zero_of_zero-dvd (rw z at (gcd_right g (l / t))) in
     sym (div-mul_cancel t d) ∙ ap (λ (x : ℕ). x * t) q ∙ zero-mul t
 
 -- the rules for a task, and for a line past the last
-pub task-ok : (pl : Plan) (i : ℕ) → i < pl.count → lineOk pl i ≡ lineSound pl.common (get_or pl.lines i noLine)
-task-ok pl i h = rw (lt-ltb i pl.count h)
+pub task_ok : (pl : Plan) (i : ℕ) → i < pl.count → line_ok pl i ≡ line_sound pl.common (get_or pl.lines i no_line)
+task_ok pl i h = rw (lt-ltb i pl.count h)
 
-past-ok : (pl : Plan) (i : ℕ) → pl.count ≤ i → lineOk pl i ≡ lineEmpty (get_or pl.lines i noLine)
-past-ok pl i h = rw (le-ltb i pl.count h)
+past_ok : (pl : Plan) (i : ℕ) → pl.count ≤ i → line_ok pl i ≡ line_empty (get_or pl.lines i no_line)
+past_ok pl i h = rw (le-ltb i pl.count h)
 
 -- the periods of the tasks
-abbrev pub periodsOf : Plan → List ℕ
-periodsOf pl = map (λ (ln : Line). ln.period.0) (take pl.count pl.lines)
+abbrev pub periods_of : Plan → List ℕ
+periods_of pl = map (λ (ln : Line). ln.period.0) (take pl.count pl.lines)
 
 -- the period of task i
-abbrev pub periodAt : Plan → ℕ → ℕ
-periodAt pl i = (get_or pl.lines i noLine).period.0
+abbrev pub period_at : Plan → ℕ → ℕ
+period_at pl i = (get_or pl.lines i no_line).period.0
 
 -- the tasks from i on are sound, their periods divide L, and g is the greatest common divisor of the quotients
 pub record Checked (pl : Plan) (g i : ℕ) : Type 0 where
-  pub below : i ≤ tasksLimit
-  pub lines : all_below tasksLimit (lineOk pl) ≡ all_below i (lineOk pl)
-  pub each : (j : ℕ) → i ≤ j → j < pl.count → periodAt pl j ∣ pl.common
-  pub divisor : g ≡ gcdAll (cofactors pl.common (drop i (periodsOf pl)))
+  pub below : i ≤ tasks_limit
+  pub lines : all_below tasks_limit (line_ok pl) ≡ all_below i (line_ok pl)
+  pub each : (j : ℕ) → i ≤ j → j < pl.count → period_at pl j ∣ pl.common
+  pub divisor : g ≡ gcd_all (cofactors pl.common (drop i (periods_of pl)))
 
-module _ (pl : Plan) (n : Numbers pl) (long : length pl.lines ≡ tasksLimit) where
-  periods-long : length (periodsOf pl) ≡ pl.count
-  periods-long = length-map (take pl.count pl.lines) (λ (ln : Line). ln.period.0) ∙ length-take-le pl.count pl.lines
-      (omega (arith, n.count-few, long))
+module _ (pl : Plan) (n : Numbers pl) (long : length pl.lines ≡ tasks_limit) where
+  periods_long : length (periods_of pl) ≡ pl.count
+  periods_long = length-map (take pl.count pl.lines) (λ (ln : Line). ln.period.0) ∙ length-take-le pl.count pl.lines
+      (omega (arith, n.count_few, long))
 
-  periods-at : (i : ℕ) → i < pl.count → get_or (periodsOf pl) i 0 ≡ periodAt pl i
-  periods-at i h = get_or-map (λ (ln : Line). ln.period.0) (take pl.count pl.lines) i noLine ∙ ap (λ (ln : Line). ln.period.0)
-      (get_or-take pl.count pl.lines i noLine h)
+  periods_at : (i : ℕ) → i < pl.count → get_or (periods_of pl) i 0 ≡ period_at pl i
+  periods_at i h = get_or-map (λ (ln : Line). ln.period.0) (take pl.count pl.lines) i no_line ∙ ap (λ (ln : Line). ln.period.0)
+      (get_or-take pl.count pl.lines i no_line h)
 
   -- the period of task i, and those after it
-  periods-from : (i : ℕ) → i < pl.count → drop i (periodsOf pl) ≡ periodAt pl i ∷ drop (i + 1) (periodsOf pl)
-  periods-from i h = rw (add-one i, ← (periods-at i h)) (drop-cons (periodsOf pl) i 0 (omega (arith, periods-long)))
+  periods_from : (i : ℕ) → i < pl.count → drop i (periods_of pl) ≡ period_at pl i ∷ drop (i + 1) (periods_of pl)
+  periods_from i h = rw (add-one i, ← (periods_at i h)) (drop-cons (periods_of pl) i 0 (omega (arith, periods_long)))
 
-  none_left : (i : ℕ) → pl.count ≤ i → drop i (periodsOf pl) ≡ []
-  none_left i h = drop_of_length-le (periodsOf pl) {i = i} (omega (arith, periods-long))
+  none_left : (i : ℕ) → pl.count ≤ i → drop i (periods_of pl) ≡ []
+  none_left i h = drop_of_length-le (periods_of pl) {i = i} (omega (arith, periods_long))
 
   -- at first
-  pub start : Checked pl 0 tasksLimit
+  pub start : Checked pl 0 tasks_limit
   start = record {
     below = omega arith;
     lines = refl;
-    each = λ j h k. absurd (omega (arith, n.count-few));
-    divisor = rw (none_left tasksLimit n.count-few);
+    each = λ j h k. absurd (omega (arith, n.count_few));
+    divisor = rw (none_left tasks_limit n.count_few);
   }
 
   -- each period divides the common period
-  divides : commonIs pl ≡ true → (i : ℕ) → i < pl.count → periodAt pl i ∣ pl.common
+  divides : common_is pl ≡ true → (i : ℕ) → i < pl.count → period_at pl i ∣ pl.common
   divides e i h =
-      rw (eqb-true pl.common (common (periodsOf pl)) e, ← (periods-at i h)) (common-each (periodsOf pl) i (omega (arith, periods-long)))
+      rw (eqb-true pl.common (common (periods_of pl)) e, ← (periods_at i h)) (common_each (periods_of pl) i (omega (arith, periods_long)))
 
   -- a period that does not divide L
-  pub period-breaks : (g i : ℕ) → i < pl.count → divisorWith g pl.common (periodAt pl i) ≡ 0 → (all_below tasksLimit (lineOk pl) && commonIs pl) ≡ false
-  period-breaks g i h e =
-      by_cases (commonIs pl)
-      (λ t. absurd (omega (arith, n.common-some, parted g pl.common (periodAt pl i) (divides t i h) e)))
-      (λ f. rw f (and-false (all_below tasksLimit (lineOk pl))))
+  pub period_breaks : (g i : ℕ) → i < pl.count → divisor_with g pl.common (period_at pl i) ≡ 0 → (all_below tasks_limit (line_ok pl) && common_is pl) ≡ false
+  period_breaks g i h e =
+      by_cases (common_is pl)
+      (λ t. absurd (omega (arith, n.common_some, parted g pl.common (period_at pl i) (divides t i h) e)))
+      (λ f. rw f (and-false (all_below tasks_limit (line_ok pl))))
 
   module _ (g i : ℕ) (k : Checked pl g (i + 1)) where
-    breaks : lineOk pl i ≡ false → (all_below tasksLimit (lineOk pl) && commonIs pl) ≡ false
-    breaks e = rw (k.lines, all-suc (lineOk pl) i, e)
+    breaks : line_ok pl i ≡ false → (all_below tasks_limit (line_ok pl) && common_is pl) ≡ false
+    breaks e = rw (k.lines, all_suc (line_ok pl) i, e)
 
-    holds : lineOk pl i ≡ true → all_below tasksLimit (lineOk pl) ≡ all_below i (lineOk pl)
-    holds e = k.lines ∙ all-suc (lineOk pl) i ∙ rw e
+    holds : line_ok pl i ≡ true → all_below tasks_limit (line_ok pl) ≡ all_below i (line_ok pl)
+    holds e = k.lines ∙ all_suc (line_ok pl) i ∙ rw e
 
     module _ (h : i < pl.count) where
       -- a task that breaks a rule
-      pub task-breaks : lineSound pl.common (get_or pl.lines i noLine) ≡ false → (all_below tasksLimit (lineOk pl) && commonIs pl) ≡ false
-      task-breaks e = breaks (task-ok pl i h ∙ e)
+      pub task_breaks : line_sound pl.common (get_or pl.lines i no_line) ≡ false → (all_below tasks_limit (line_ok pl) && common_is pl) ≡ false
+      task_breaks e = breaks (task_ok pl i h ∙ e)
 
       -- a sound task more
-      pub task-more : (g' : ℕ) → lineSound pl.common (get_or pl.lines i noLine) ≡ true → g' ≡ divisorWith g pl.common (periodAt pl i) →
+      pub task_more : (g' : ℕ) → line_sound pl.common (get_or pl.lines i no_line) ≡ true → g' ≡ divisor_with g pl.common (period_at pl i) →
           (g' ≡ 0 → ⊥) → Checked pl g' i
-      task-more g' e t z =
-          let d = joined g pl.common (periodAt pl i) (λ u. z (t ∙ u)) in
+      task_more g' e t z =
+          let d = joined g pl.common (period_at pl i) (λ u. z (t ∙ u)) in
           record {
-            below = omega (arith, n.count-few);
-            lines = holds (task-ok pl i h ∙ e);
+            below = omega (arith, n.count_few);
+            lines = holds (task_ok pl i h ∙ e);
             each = λ j a b. by_cases (eqb j i) (λ u. rw (eqb-true j i u) d.0) (λ u. k.each j (omega (arith, eqb-false j i u)) b);
-            divisor = t ∙ d.1 ∙ ap (λ (x : ℕ). gcd x (pl.common / periodAt pl i)) k.divisor ∙ sym
-                (ap (λ (ts : List ℕ). gcdAll (cofactors pl.common ts)) (periods-from i h));
+            divisor = t ∙ d.1 ∙ ap (λ (x : ℕ). gcd x (pl.common / period_at pl i)) k.divisor ∙ sym
+                (ap (λ (ts : List ℕ). gcd_all (cofactors pl.common ts)) (periods_from i h));
           }
 
     module _ (h : pl.count ≤ i) where
       -- a line that is not empty
-      pub past-breaks : lineEmpty (get_or pl.lines i noLine) ≡ false → (all_below tasksLimit (lineOk pl) && commonIs pl) ≡ false
-      past-breaks e = breaks (past-ok pl i h ∙ e)
+      pub past_breaks : line_empty (get_or pl.lines i no_line) ≡ false → (all_below tasks_limit (line_ok pl) && common_is pl) ≡ false
+      past_breaks e = breaks (past_ok pl i h ∙ e)
 
       -- an empty line more
-      pub past_more : i < tasksLimit → lineEmpty (get_or pl.lines i noLine) ≡ true → Checked pl g i
+      pub past_more : i < tasks_limit → line_empty (get_or pl.lines i no_line) ≡ true → Checked pl g i
       past_more l e = record {
         below = omega arith;
-        lines = holds (past-ok pl i h ∙ e);
+        lines = holds (past_ok pl i h ∙ e);
         each = λ j a b. k.each j (omega arith) b;
         divisor = k.divisor ∙ rw (none_left i h, none_left (i + 1) (omega arith));
       }
 
   -- all lines are tested
-  pub finish : (g : ℕ) → Checked pl g 0 → eqb g 1 ≡ (all_below tasksLimit (lineOk pl) && commonIs pl)
+  pub finish : (g : ℕ) → Checked pl g 0 → eqb g 1 ≡ (all_below tasks_limit (line_ok pl) && common_is pl)
   unfolding all_below
   finish g k =
-      let each : Each (λ t. t ∣ pl.common) (periodsOf pl) = λ i h. rw (periods-at i (omega (arith, periods-long)))
-      (k.each i (omega arith) (omega (arith, periods-long))) in
-      same_bool (eqb g 1) (all_below tasksLimit (lineOk pl) && commonIs pl)
-      (λ e. and-true (all_below tasksLimit (lineOk pl)) (commonIs pl) k.lines
-      (eq-eqb pl.common (common (periodsOf pl)) (cofactor-common pl.common (periodsOf pl) each (sym k.divisor ∙ eqb-true g 1 e))))
-      (λ e. eq-eqb g 1 (k.divisor ∙ common-cofactor pl.common (periodsOf pl) n.common-some (omega (arith, periods-long, n.count-some))
-      (eqb-true pl.common (common (periodsOf pl)) (and_right (all_below tasksLimit (lineOk pl)) (commonIs pl) e))))
+      let each : Each (λ t. t ∣ pl.common) (periods_of pl) = λ i h. rw (periods_at i (omega (arith, periods_long)))
+      (k.each i (omega arith) (omega (arith, periods_long))) in
+      same_bool (eqb g 1) (all_below tasks_limit (line_ok pl) && common_is pl)
+      (λ e. and_true (all_below tasks_limit (line_ok pl)) (common_is pl) k.lines
+      (eq-eqb pl.common (common (periods_of pl)) (cofactor_common pl.common (periods_of pl) each (sym k.divisor ∙ eqb-true g 1 e))))
+      (λ e. eq-eqb g 1 (k.divisor ∙ common_cofactor pl.common (periods_of pl) n.common_some (omega (arith, periods_long, n.count_some))
+      (eqb-true pl.common (common (periods_of pl)) (and_right (all_below tasks_limit (line_ok pl)) (common_is pl) e))))

@@ -1,8 +1,8 @@
 // The rules for the cores, by their sums.
 ghost use Rattle.std.specs.Prelude.{◌≡◌};
-ghost use Rattle.units.specs.Limits.{coresLimit};
+ghost use Rattle.units.specs.Limits.{cores_limit};
 ghost use Rattle.lists.specs.Below.{all_below};
-ghost use Rattle.soundness.specs.Inner.{sumsSound};
+ghost use Rattle.soundness.specs.Inner.{sums_sound};
 
 use crate::sums::Sums;
 use core_rules::{core_within, few_movers, guarded, one_first};
@@ -10,7 +10,7 @@ use units::limits::CORES;
 
 // All rules for all cores.
 pub(crate) fn cores_sound(sums: Sums, cores: usize, common: u32) -> bool
-    ensures { result ≡ all_below coresLimit (sumsSound cores common sums) }
+    ensures { result ≡ all_below cores_limit (sums_sound cores common sums) }
 {
     let mut sound = true;
     let mut p: usize = 0;

@@ -1,7 +1,7 @@
 // The rules for one task's line.
 ghost use Rattle.std.specs.Prelude.{true, ◌≡◌};
-ghost use Rattle.soundness.specs.Rules.{lineIn, weightIs, sharesSum, lineEmpty};
-ghost use Rattle.soundness.specs.Plan.{lineSound};
+ghost use Rattle.soundness.specs.Rules.{line_in, weight_is, shares_sum, line_empty};
+ghost use Rattle.soundness.specs.Plan.{line_sound};
 
 use planning::Line;
 use task_shares::rows::sum_of;
@@ -9,15 +9,15 @@ use units::limits::PERIOD;
 
 // Cost and period are in their ranges.
 fn line_in(line: Line) -> bool
-    ensures { result ≡ lineIn line }
+    ensures { result ≡ line_in line }
 {
     (1 <= line.cost.0) & (line.cost.0 <= line.period.0) & (line.period.0 <= PERIOD)
 }
 
 // The weight is C × L / T: T goes into C × L as often, and once more would be too much.
 fn weight_is(common: u32, line: Line) -> bool
-    requires { lineIn line ≡ true }
-    ensures { result ≡ weightIs common line }
+    requires { line_in line ≡ true }
+    ensures { result ≡ weight_is common line }
 {
     let whole = line.cost.0 as u64 * common as u64;
     let part = line.weight.0 as u64 * line.period.0 as u64;
@@ -26,7 +26,7 @@ fn weight_is(common: u32, line: Line) -> bool
 
 // The shares sum to the weight.
 fn shares_sum(line: Line) -> bool
-    ensures { result ≡ sharesSum line }
+    ensures { result ≡ shares_sum line }
 {
     let shares = line.shares;
     sum_of(shares) == line.weight.0 as u64
@@ -34,7 +34,7 @@ fn shares_sum(line: Line) -> bool
 
 // All rules for a task in use.
 pub(crate) fn line_sound(common: u32, line: Line) -> bool
-    ensures { result ≡ lineSound common line }
+    ensures { result ≡ line_sound common line }
 {
     if !line_in(line) {
         return false;
@@ -44,7 +44,7 @@ pub(crate) fn line_sound(common: u32, line: Line) -> bool
 
 // The rule past the last task: all numbers are 0.
 pub(crate) fn line_empty(line: Line) -> bool
-    ensures { result ≡ lineEmpty line }
+    ensures { result ≡ line_empty line }
 {
     let shares = line.shares;
     let sum = sum_of(shares);

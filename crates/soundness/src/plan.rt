@@ -1,8 +1,8 @@
 // A plan is sound if every rule holds.
 ghost use Rattle.std.specs.Prelude.{◌≡◌, ◌<◌};
-ghost use Rattle.soundness.specs.Rules.{numbersIn};
-ghost use Rattle.soundness.specs.Plan.{planSound};
-ghost use Rattle.soundness.specs.Inner.{divisorWith};
+ghost use Rattle.soundness.specs.Rules.{numbers_in};
+ghost use Rattle.soundness.specs.Plan.{plan_sound};
+ghost use Rattle.soundness.specs.Inner.{divisor_with};
 
 use crate::cores::cores_sound;
 use crate::lines::{line_empty, line_sound};
@@ -13,7 +13,7 @@ use units::limits::{COMMON, CORES, TASKS};
 
 // Cores, tasks and the common period are in their ranges.
 fn numbers_in(plan: Plan) -> bool
-    ensures { result ≡ numbersIn plan }
+    ensures { result ≡ numbers_in plan }
 {
     (1 <= plan.cores)
         & (plan.cores <= CORES as u32)
@@ -26,7 +26,7 @@ fn numbers_in(plan: Plan) -> bool
 // The greatest common divisor of the quotients so far and of L / T, 0 where T does not divide L; once 1 it stays 1.
 fn divisor_with(divisor: u32, common: u32, period: u32) -> u32
     requires { 0 < period }
-    ensures { result ≡ divisorWith divisor common period }
+    ensures { result ≡ divisor_with divisor common period }
 {
     if common % period != 0 {
         return 0;
@@ -39,7 +39,7 @@ fn divisor_with(divisor: u32, common: u32, period: u32) -> u32
 
 // In one pass over the lines, from the last to the first: so the definitions fold the table of shares.
 pub fn plan_sound(plan: Plan) -> bool
-    ensures { result ≡ planSound plan }
+    ensures { result ≡ plan_sound plan }
 {
     if !numbers_in(plan) {
         return false;

@@ -1,6 +1,6 @@
 // What the tasks put on each core, summed up task by task.
 ghost use Rattle.std.specs.Prelude.{◌≡◌, true, false, ◌≤◌, max};
-ghost use Rattle.units.specs.Limits.{commonLimit};
+ghost use Rattle.units.specs.Limits.{common_limit};
 ghost use Rattle.units.specs.Units.{nums};
 ghost use Rattle.lists.specs.Lists.{total};
 ghost use Rattle.task_shares.specs.Movers.{moves};
@@ -42,7 +42,7 @@ impl Sums {
 
     // With one fixed task more: its one share is its weight.
     fn with_fixed(self, shares: [Share; CORES]) -> Sums
-        requires { AtMostAllTasks self × (total (nums shares) ≤ commonLimit) × (moves (nums shares) ≡ false) }
+        requires { AtMostAllTasks self × (total (nums shares) ≤ common_limit) × (moves (nums shares) ≡ false) }
         ensures { OneMore (nums shares) self result }
     {
         let mut sums = self;
@@ -63,7 +63,7 @@ impl Sums {
 
     // With one mover more.
     fn with_mover(self, shares: [Share; CORES], weight: Share) -> Sums
-        requires { AtMostAllTasks self × (total (nums shares) ≡ weight.0) × (weight.0 ≤ commonLimit) × (moves (nums shares) ≡ true) }
+        requires { AtMostAllTasks self × (total (nums shares) ≡ weight.0) × (weight.0 ≤ common_limit) × (moves (nums shares) ≡ true) }
         ensures { OneMore (nums shares) self result }
     {
         let mut sums = self;
@@ -91,7 +91,7 @@ impl Sums {
 
     // With one task more, whose shares sum to its weight.
     pub(crate) fn with_line(self, line: Line) -> Sums
-        requires { AtMostAllTasks self × (total (row_of line) ≡ line.weight.0) × (line.weight.0 ≤ commonLimit) }
+        requires { AtMostAllTasks self × (total (row_of line) ≡ line.weight.0) × (line.weight.0 ≤ common_limit) }
         ensures { OneMore (row_of line) self result }
     {
         let shares = line.shares;

@@ -6,24 +6,24 @@ use native.Mathlib.Omega.{arith}
 use borrow.Author.Tests.{ltb-true, ltb-false, lt-ltb, le-ltb}
 use lib.Dec.{ltb}
 use lib.ListN.{get_or-eq_default}
-use Rattle.units.specs.Limits.{runsLimit}
+use Rattle.units.specs.Limits.{runs_limit}
 use Rattle.units.specs.Units.{ticks}
 use Rattle.lists.proofs.Tests.{by_cases, same_bool}
 use Rattle.planning.specs.declared.Line.{Line}
 use Rattle.task_state.specs.declared.State.{State}
-use Rattle.state_rules.specs.Sound.{runRule, stateSound}
-use Rattle.task_state.specs.Runs.{withoutRun}
-use Rattle.task_state.proofs.Oldest.{next_up, up-long}
-use Rattle.state_rules.proofs.Facts.{facts, from-facts}
+use Rattle.state_rules.specs.Sound.{run_rule, state_sound}
+use Rattle.task_state.specs.Runs.{without_run}
+use Rattle.task_state.proofs.Oldest.{next_up, up_long}
+use Rattle.state_rules.proofs.Facts.{facts, from_facts}
 use Rattle.task_state.specs.Shape.{Shaped}
 
 -- the lengths stay
-pub without-shaped : (st : State) → Shaped st → Shaped (withoutRun st)
-unfolding withoutRun
-without-shaped st shaped = record {
-  deadlines = up-long (ticks 0) st.deadlines shaped.deadlines;
+pub without_shaped : (st : State) → Shaped st → Shaped (without_run st)
+unfolding without_run
+without_shaped st shaped = record {
+  deadlines = up_long (ticks 0) st.deadlines shaped.deadlines;
   counts = shaped.counts;
-  cores = up-long 0 st.cores shaped.cores;
+  cores = up_long 0 st.cores shaped.cores;
 }
 
 -- below one less
@@ -33,15 +33,15 @@ below_less k n =
     (λ e. lt-ltb (suc k) n (omega (arith, ltb-true k (n - 1) e)))
     (λ e. lt-ltb k (n - 1) (omega (arith, ltb-true (suc k) n e)))
 
-module _ (ln : Line) (st : State) (shaped : Shaped st) (sound : stateSound ln st ≡ true) where
+module _ (ln : Line) (st : State) (shaped : Shaped st) (sound : state_sound ln st ≡ true) where
   -- each run has the rule of the one after it
-  without-rule : (k : ℕ) → runRule ln (withoutRun st) k ≡ runRule ln st (suc k)
-  unfolding withoutRun
-  without-rule k = rw (below_less k st.live, next_up 0 st.cores k, next_up (ticks 0) st.deadlines k)
+  without_rule : (k : ℕ) → run_rule ln (without_run st) k ≡ run_rule ln st (suc k)
+  unfolding without_run
+  without_rule k = rw (below_less k st.live, next_up 0 st.cores k, next_up (ticks 0) st.deadlines k)
 
   -- past the eighth there is none
-  last-rule : (k : ℕ) → runsLimit ≤ k → runRule ln st k ≡ true
-  last-rule k h =
+  last_rule : (k : ℕ) → runs_limit ≤ k → run_rule ln st k ≡ true
+  last_rule k h =
       rw (
         le-ltb k st.live (omega (arith, (facts ln st sound).few)),
         get_or-eq_default st.cores 0 {n = k} (omega (arith, shaped.cores)),
@@ -49,21 +49,21 @@ module _ (ln : Line) (st : State) (shaped : Shaped st) (sound : stateSound ln st
       )
 
   -- so each keeps its rule
-  without-rules : (k : ℕ) → k < runsLimit → runRule ln (withoutRun st) k ≡ true
-  without-rules k l =
-      without-rule k ∙
-      by_cases (ltb (suc k) runsLimit)
-      (λ e. (facts ln st sound).rules (suc k) (ltb-true (suc k) runsLimit e))
-      (λ e. last-rule (suc k) (ltb-false (suc k) runsLimit e))
+  without_rules : (k : ℕ) → k < runs_limit → run_rule ln (without_run st) k ≡ true
+  without_rules k l =
+      without_rule k ∙
+      by_cases (ltb (suc k) runs_limit)
+      (λ e. (facts ln st sound).rules (suc k) (ltb-true (suc k) runs_limit e))
+      (λ e. last_rule (suc k) (ltb-false (suc k) runs_limit e))
 
   -- and the state is sound
-  pub without-sound : stateSound ln (withoutRun st) ≡ true
-  unfolding withoutRun
-  without-sound =
+  pub without_sound : state_sound ln (without_run st) ≡ true
+  unfolding without_run
+  without_sound =
       let f = facts ln st sound in
-      from-facts ln (withoutRun st) (record {
+      from_facts ln (without_run st) (record {
         few = omega (arith, f.few);
-        rules = without-rules;
+        rules = without_rules;
         counts = f.counts;
         below = f.below;
         flag = f.flag;

@@ -7,7 +7,7 @@ use borrow.Author.Tests.{ltb-true, leb-true, eqb-true, eqb-false, ne_eqb, lt-ltb
 use lib.Dec.{ltb, leb, eqb}
 use lib.ListN.{get_or}
 use Rattle.units.specs.declared.share.Share.{Share}
-use Rattle.units.specs.Limits.{coresLimit, clockLimit}
+use Rattle.units.specs.Limits.{cores_limit, clock_limit}
 use Rattle.units.specs.Units.{share, nums}
 use Rattle.units.proofs.Units.{nums_at}
 use Rattle.lists.specs.Lists.{total}
@@ -16,66 +16,66 @@ use Rattle.planning.specs.declared.Line.{Line}
 use Rattle.stored_runs.specs.declared.Run.{Run}
 use Rattle.task_state.specs.declared.State.{State}
 use Rattle.task_state.specs.State.{run_at}
-use Rattle.task_state.specs.Due.{dueAfter}
-use Rattle.stored_runs.specs.Run.{runEmpty}
-use Rattle.state_rules.specs.Sound.{runRule, runsSound, lastSound, stateSound, runsEmpty, stateEmpty}
+use Rattle.task_state.specs.Due.{due_after}
+use Rattle.stored_runs.specs.Run.{run_empty}
+use Rattle.state_rules.specs.Sound.{run_rule, runs_sound, last_sound, state_sound, runs_empty, state_empty}
 
 -- a run's core is from 1 to 16
 abbrev pub placed : Run → Bool
-placed r = ltb 0 r.core && leb r.core coresLimit
+placed r = ltb 0 r.core && leb r.core cores_limit
 
-pub placed-in : (r : Run) → placed r ≡ true → (0 < r.core) × (r.core ≤ coresLimit)
-placed-in r e =
+pub placed_in : (r : Run) → placed r ≡ true → (0 < r.core) × (r.core ≤ cores_limit)
+placed_in r e =
     let some = ltb 0 r.core in
-    let few = leb r.core coresLimit in
-    (ltb-true 0 r.core (and_left some few e), leb-true r.core coresLimit (and_right some few e))
+    let few = leb r.core cores_limit in
+    (ltb-true 0 r.core (and_left some few e), leb-true r.core cores_limit (and_right some few e))
 
 -- the rule of a line with these shares, whose runs are due by the latest
-abbrev pub ruleBy : List Share → ℕ → State → ℕ → Bool
-ruleBy ss latest st k =
+abbrev pub rule_by : List Share → ℕ → State → ℕ → Bool
+rule_by ss latest st k =
     let r = run_at st k in
-    cond (ltb k st.live) (placed r && ltb 0 (get_or (nums ss) (r.core - 1) 0) && leb r.deadline.0 latest) (runEmpty r)
+    cond (ltb k st.live) (placed r && ltb 0 (get_or (nums ss) (r.core - 1) 0) && leb r.deadline.0 latest) (run_empty r)
 
 module _ (ln : Line) (st : State) (k : ℕ) where
   -- an unfinished run on no core
-  pub unplaced : k < st.live → placed (run_at st k) ≡ false → runRule ln st k ≡ false
+  pub unplaced : k < st.live → placed (run_at st k) ≡ false → run_rule ln st k ≡ false
   unplaced h e = rw (lt-ltb k st.live h, e)
 
-  module _ {latest : ℕ} (q : latest ≡ clockLimit + dueAfter ln) where
+  module _ {latest : ℕ} (q : latest ≡ clock_limit + due_after ln) where
     -- an unfinished run on a core
     pub unfinished : k < st.live → placed (run_at st k) ≡ true
-        → runRule ln st k ≡ (ltb 0 (get_or ln.shares ((run_at st k).core - 1) (share 0)).0 && leb (run_at st k).deadline.0 latest)
+        → run_rule ln st k ≡ (ltb 0 (get_or ln.shares ((run_at st k).core - 1) (share 0)).0 && leb (run_at st k).deadline.0 latest)
     unfinished h e = rw (lt-ltb k st.live h, e, nums_at ln.shares ((run_at st k).core - 1), q)
 
     -- each run's rule
-    pub rule-by : ruleBy ln.shares latest st k ≡ runRule ln st k
-    rule-by = rw q
+    pub rule_by_lem : rule_by ln.shares latest st k ≡ run_rule ln st k
+    rule_by_lem = rw q
 
   -- what stands past the unfinished
-  pub past : st.live ≤ k → runRule ln st k ≡ runEmpty (run_at st k)
+  pub past : st.live ≤ k → run_rule ln st k ≡ run_empty (run_at st k)
   past h = rw (le-ltb k st.live h)
 
-last-first : (a b c : Bool) → (a && b && c) ≡ (c && a && b)
-last-first a b c = and_comm (a && b) c ∙ sym (and_assoc c a b)
+last_first : (a b c : Bool) → (a && b && c) ≡ (c && a && b)
+last_first a b c = and_comm (a && b) c ∙ sym (and_assoc c a b)
 
 -- of two numbers that differ one is not 0
-not-both : (m n : ℕ) → eqb m n ≡ false → (eqb m 0 && eqb n 0) ≡ false
-not-both m n e =
+not_both : (m n : ℕ) → eqb m n ≡ false → (eqb m 0 && eqb n 0) ≡ false
+not_both m n e =
     by_cases (eqb m 0)
     (λ u. rw (u, ne_eqb n 0 (λ v. eqb-false m n e (eqb-true m 0 u ∙ sym v))))
     (λ u. rw u)
 
 module _ (st : State) where
   -- counts that do not sum to the place, of any task
-  pub other-sum : (ln : Line) (used : Bool) → eqb (total st.counts) st.place ≡ false → cond used (stateSound ln st) (stateEmpty st) ≡ false
-  other-sum ln true e = rw (e, and-false (runsSound ln st))
-  other-sum ln false e = rw (not-both (total st.counts) st.place e)
+  pub other_sum : (ln : Line) (used : Bool) → eqb (total st.counts) st.place ≡ false → cond used (state_sound ln st) (state_empty st) ≡ false
+  other_sum ln true e = rw (e, and-false (runs_sound ln st))
+  other_sum ln false e = rw (not_both (total st.counts) st.place e)
 
   module _ (e : eqb (total st.counts) st.place ≡ true) where
     -- what is left to test of a task in use
-    pub used-left : (ln : Line) → (ltb st.place ln.weight.0 && lastSound st && runsSound ln st) ≡ stateSound ln st
-    used-left ln = rw e (last-first (ltb st.place ln.weight.0) (lastSound st) (runsSound ln st))
+    pub used_left : (ln : Line) → (ltb st.place ln.weight.0 && last_sound st && runs_sound ln st) ≡ state_sound ln st
+    used_left ln = rw e (last_first (ltb st.place ln.weight.0) (last_sound st) (runs_sound ln st))
 
     -- and of another
-    pub other-left : (eqb st.place 0 && eqb st.last.0 0 && eqb st.had 0 && eqb st.live 0 && runsEmpty st) ≡ stateEmpty st
-    other-left = rw (eqb-true (total st.counts) st.place e, and_self (eqb st.place 0))
+    pub other_left : (eqb st.place 0 && eqb st.last.0 0 && eqb st.had 0 && eqb st.live 0 && runs_empty st) ≡ state_empty st
+    other_left = rw (eqb-true (total st.counts) st.place e, and_self (eqb st.place 0))

@@ -1,7 +1,7 @@
 // The rules of soundness for one task's state.
 ghost use Rattle.std.specs.Prelude.{◌≡◌, cond, ◌<◌, eqb};
 ghost use Rattle.lists.specs.Lists.{total};
-ghost use Rattle.state_rules.specs.Sound.{runsSound, lastSound, stateSound, runsEmpty, stateEmpty};
+ghost use Rattle.state_rules.specs.Sound.{runs_sound, last_sound, state_sound, runs_empty, state_empty};
 
 use planning::Line;
 use stored_runs::Run;
@@ -32,7 +32,7 @@ fn sums_to(counts: [u32; CORES], place: u32) -> bool
 
 // A task has 0 to 8 unfinished runs, each sound; past them all is 0.
 fn runs_sound(state: State, line: Line) -> bool
-    ensures { result ≡ runsSound line state }
+    ensures { result ≡ runs_sound line state }
 {
     let live = state.live as usize;
     if RUNS < live {
@@ -69,14 +69,14 @@ fn runs_sound(state: State, line: Line) -> bool
 
 // The flag is 0 or 1; a last release is within the clock's range, and 0 where there was none.
 fn last_sound(state: State) -> bool
-    ensures { result ≡ lastSound state }
+    ensures { result ≡ last_sound state }
 {
     (state.had <= 1) & (state.last.0 <= CLOCK) & ((state.had == 1) | (state.last.0 == 0))
 }
 
 // No run stands.
 fn runs_empty(state: State) -> bool
-    ensures { result ≡ runsEmpty state }
+    ensures { result ≡ runs_empty state }
 {
     let mut k: usize = 0;
     while k < RUNS {
@@ -97,7 +97,7 @@ fn runs_empty(state: State) -> bool
 
 // A task in use is sound, another is empty: both ask what the counts sum to, which is quicker before any branch.
 pub fn state_ok(state: State, used: bool, line: Line) -> bool
-    ensures { result ≡ cond used (stateSound line state) (stateEmpty state) }
+    ensures { result ≡ cond used (state_sound line state) (state_empty state) }
 {
     let counts = state.counts;
     if !sums_to(counts, state.place) {

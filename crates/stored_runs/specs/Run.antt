@@ -8,5 +8,5 @@ abbrev pub run : ℕ → ℕ → Run
 run k d = record { core = k; deadline = ticks d }
 
 -- past the unfinished runs all numbers are 0
-abbrev pub runEmpty : Run → Bool
-runEmpty run = eqb run.core 0 && eqb run.deadline.0 0
+abbrev pub run_empty : Run → Bool
+run_empty run = eqb run.core 0 && eqb run.deadline.0 0

@@ -1,7 +1,7 @@
 // A stored run, and its rules of soundness.
 ghost use Rattle.std.specs.Prelude.{◌≡◌, ◌&&◌, ltb, leb};
-ghost use Rattle.units.specs.Limits.{coresLimit};
-ghost use Rattle.stored_runs.specs.Run.{runEmpty};
+ghost use Rattle.units.specs.Limits.{cores_limit};
+ghost use Rattle.stored_runs.specs.Run.{run_empty};
 
 use units::limits::CORES;
 use units::share::Share;
@@ -17,7 +17,7 @@ pub struct Run {
 impl Run {
     // Its core is from 1 to 16.
     pub fn placed(self) -> bool
-        ensures { result ≡ (ltb 0 self.core && leb self.core coresLimit) }
+        ensures { result ≡ (ltb 0 self.core && leb self.core cores_limit) }
     {
         (0 < self.core) & (self.core <= CORES)
     }
@@ -31,7 +31,7 @@ impl Run {
 
     // All numbers are 0.
     pub fn empty(self) -> bool
-        ensures { result ≡ runEmpty self }
+        ensures { result ≡ run_empty self }
     {
         (self.core == 0) & (self.deadline.0 == 0)
     }

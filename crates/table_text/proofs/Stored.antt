@@ -6,13 +6,13 @@ use native.Mathlib.Omega.{arith}
 use native.Mathlib.Nat.{sub-zero}
 use lib.ListN.{length, set, length-set}
 use lib.Seq.{sets}
-use Rattle.table_text.specs.Text.{taskLine, numbersFrom}
-use Rattle.table_text.proofs.Tables.{task-kept, numbers-none, numbers-later}
+use Rattle.table_text.specs.Text.{task_line, numbers_from}
+use Rattle.table_text.proofs.Tables.{task_kept, numbers_none, numbers_later}
 use Rattle.scanning.specs.declared.line.Pair.TheVariants.{Two, NoPair}
 
 -- two stores, and then the later numbers
-pub stored-two : (l : List ℕ) (i c t : ℕ) (r : List ℕ) → sets l (2 * i) (c ∷ t ∷ r) ≡ sets (set (set l (2 * i) c) (2 * i + 1) t) (2 * (i + 1)) r
-stored-two l i c t r =
+pub stored_two : (l : List ℕ) (i c t : ℕ) (r : List ℕ) → sets l (2 * i) (c ∷ t ∷ r) ≡ sets (set (set l (2 * i) c) (2 * i + 1) t) (2 * (i + 1)) r
+stored_two l i c t r =
     let e : suc (2 * i) ≡ 2 * i + 1 = omega arith in
     let f : suc (suc (2 * i)) ≡ 2 * (i + 1) = omega arith in
     ap (λ (k : ℕ). sets (set (set l (2 * i) c) (suc (2 * i)) t) k r) f
@@ -23,8 +23,8 @@ pub record Stored (s : List ℕ) (from : ℕ) (before now : List ℕ) (i at : �
   pub ahead : i ≤ at
   pub within : i ≤ length s
   pub long : length now ≡ length before
-  pub count : length (numbersFrom (length s) s from) ≡ 2 * i + length (numbersFrom (length s - i) s at)
-  pub table : sets before 0 (numbersFrom (length s) s from) ≡ sets now (2 * i) (numbersFrom (length s - i) s at)
+  pub count : length (numbers_from (length s) s from) ≡ 2 * i + length (numbers_from (length s - i) s at)
+  pub table : sets before 0 (numbers_from (length s) s from) ≡ sets now (2 * i) (numbers_from (length s - i) s at)
 
 -- at first none stands
 pub start : (s : List ℕ) (from : ℕ) (l : List ℕ) → Stored s from l l 0 from
@@ -32,26 +32,26 @@ start s from l = record { ahead = omega arith; within = omega arith; long = refl
 
 module _ (s : List ℕ) (from : ℕ) (before : List ℕ) {now : List ℕ} (i at : ℕ) (h : Stored s from before now i at) where
   -- the two numbers of one more task
-  pub more : {l₁ l₂ : List ℕ} (c t : ℕ) {next : ℕ} → at < length s → taskLine s at ≡ Two c t next → l₁ ≡ set now (2 * i) c → l₂ ≡ set l₁ (2 * i + 1) t
+  pub more : {l₁ l₂ : List ℕ} (c t : ℕ) {next : ℕ} → at < length s → task_line s at ≡ Two c t next → l₁ ≡ set now (2 * i) c → l₂ ≡ set l₁ (2 * i + 1) t
       → Stored s from before l₂ (i + 1) next
   more {l₁} {l₂} c t {next} k p a b =
       let e : length s - i ≡ suc (length s - (i + 1)) = omega (arith, h.ahead) in
-      let q = numbers-later s at _ _ e k p in
+      let q = numbers_later s at _ _ e k p in
       record {
-        ahead = omega (arith, h.ahead, (task-kept s at c t next p).2);
+        ahead = omega (arith, h.ahead, (task_kept s at c t next p).2);
         within = omega (arith, h.ahead);
         long = ap length (b ∙ ap (λ (l : List ℕ). set l (2 * i + 1) t) a) ∙ simp length-set h.long;
         count = omega (arith, h.count, ap length q);
-        table = h.table ∙ rw (q, b, a) (stored-two now i c t (numbersFrom (length s - (i + 1)) s next));
+        table = h.table ∙ rw (q, b, a) (stored_two now i c t (numbers_from (length s - (i + 1)) s next));
       }
 
   -- an unreadable line has no number
-  pub none_here : at < length s → taskLine s at ≡ NoPair → numbersFrom (length s - i) s at ≡ []
+  pub none_here : at < length s → task_line s at ≡ NoPair → numbers_from (length s - i) s at ≡ []
   none_here k p =
       let e : length s - i ≡ suc (length s - (i + 1)) = omega (arith, h.ahead) in
-      numbers-none s at _ _ e k p
+      numbers_none s at _ _ e k p
 
   -- with no more numbers all stand
-  pub whole : numbersFrom (length s - i) s at ≡ []
-      → (2 * i ≡ length (numbersFrom (length s) s from)) × (now ≡ sets before 0 (numbersFrom (length s) s from))
+  pub whole : numbers_from (length s - i) s at ≡ []
+      → (2 * i ≡ length (numbers_from (length s) s from)) × (now ≡ sets before 0 (numbers_from (length s) s from))
   whole e = (omega (arith, h.count, ap length e), sym (h.table ∙ rw e refl))

@@ -1,7 +1,7 @@
 // Reading the program's text: a core count and a table, or the line that cannot be read.
 ghost use Rattle.std.specs.Prelude.{◌≡◌, length};
 ghost use Rattle.std.proofs.lemmas.List.Edits.{sets};
-ghost use Rattle.table_text.specs.Text.{text_of, tableFrom, badTask, numbersFrom, tableSaid, answer_of};
+ghost use Rattle.table_text.specs.Text.{text_of, table_from, bad_task, numbers_from, table_said, answer_of};
 
 use lent_numbers::store;
 use scanning::line::{Pair, read_field, read_pair};
@@ -24,7 +24,7 @@ pub enum Reading {
 
 // The first unreadable line of a table that starts with the text's second line, 0 if there is none.
 fn first_unreadable(text: &[u8], from: usize) -> usize
-    ensures { result ≡ badTask text.now from }
+    ensures { result ≡ bad_task text.now from }
 {
     let mut at = from;
     let mut line = 2;
@@ -44,8 +44,8 @@ fn first_unreadable(text: &[u8], from: usize) -> usize
 
 // Stores the numbers of the lines from a place on, and answers how many they are.
 fn store_tasks(text: &[u8], from: usize, table: &mut [u32]) -> usize
-    ensures value { result ≡ length (numbersFrom (length text.now) text.now from) }
-    ensures table_after { table.new ≡ sets table.old 0 (numbersFrom (length text.now) text.now from) }
+    ensures value { result ≡ length (numbers_from (length text.now) text.now from) }
+    ensures table_after { table.new ≡ sets table.old 0 (numbers_from (length text.now) text.now from) }
 {
     let mut at = from;
     let mut i = 0;
@@ -69,8 +69,8 @@ fn store_tasks(text: &[u8], from: usize, table: &mut [u32]) -> usize
 
 // The table, stored only if each of its lines can be read.
 fn read_table(text: &[u8], cores: u32, from: usize, table: &mut [u32]) -> Reading
-    ensures value { result ≡ answer_of (tableFrom text.now cores from) }
-    ensures table_after { table.new ≡ sets table.old 0 (tableSaid (tableFrom text.now cores from)) }
+    ensures value { result ≡ answer_of (table_from text.now cores from) }
+    ensures table_after { table.new ≡ sets table.old 0 (table_said (table_from text.now cores from)) }
 {
     let line = first_unreadable(text, from);
     if line == 0 {
@@ -87,7 +87,7 @@ fn read_table(text: &[u8], cores: u32, from: usize, table: &mut [u32]) -> Readin
 // What the text says. Its numbers are stored in the table as far as that reaches; an unreadable text changes none.
 pub fn read_text(text: &[u8], table: &mut [u32]) -> Reading
     ensures value { result ≡ answer_of (text_of text.now) }
-    ensures table_after { table.new ≡ sets table.old 0 (tableSaid (text_of text.now)) }
+    ensures table_after { table.new ≡ sets table.old 0 (table_said (text_of text.now)) }
 {
     let n = text.len();
     if BYTES < n {

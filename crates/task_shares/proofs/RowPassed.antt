@@ -9,48 +9,48 @@ use lib.Seq.{drop-cons}
 use borrow.Author.Tests.{lt-ltb, le-ltb, eq-eqb, ne_eqb}
 use Rattle.units.specs.declared.share.Share.{Share}
 use Rattle.units.specs.Units.{share, nums}
-use Rattle.units.proofs.Units.{nums-length, nums_at}
-use Rattle.lists.specs.Lists.{total, parts, firstPart, bit}
-use Rattle.lists.proofs.Lists.{parts-cons}
+use Rattle.units.proofs.Units.{nums_length, nums_at}
+use Rattle.lists.specs.Lists.{total, parts, first_part, bit}
+use Rattle.lists.proofs.Lists.{parts_cons}
 
 module _ (ss : List Share) (p : ℕ) (h : p < length ss) where
   -- the share on core p, and those after it
-  shares-from : drop p (nums ss) ≡ (get_or ss p (share 0)).0 ∷ drop (p + 1) (nums ss)
-  shares-from = rw (add-one p, ← (nums_at ss p)) (drop-cons (nums ss) p 0 (omega (arith, nums-length ss)))
+  shares_from : drop p (nums ss) ≡ (get_or ss p (share 0)).0 ∷ drop (p + 1) (nums ss)
+  shares_from = rw (add-one p, ← (nums_at ss p)) (drop-cons (nums ss) p 0 (omega (arith, nums_length ss)))
 
   -- a share is added
   pub sum_more : (n : ℕ) → n + total (drop p (nums ss)) ≡ total (nums ss) → (n + (get_or ss p (share 0)).0) + total (drop (p + 1) (nums ss)) ≡ total (nums ss)
-  sum_more n e = omega (arith, ap total shares-from)
+  sum_more n e = omega (arith, ap total shares_from)
 
   -- a share is one part
   pub parts_more : (n : ℕ) → n + parts (drop p (nums ss)) ≡ parts (nums ss) → 0 < (get_or ss p (share 0)).0
       → (n + 1) + parts (drop (p + 1) (nums ss)) ≡ parts (nums ss)
   parts_more n e k =
       let x : ℕ = (get_or ss p (share 0)).0 in
-      omega (arith, ap parts shares-from ∙ parts-cons x (drop (p + 1) (nums ss)), ap bit (lt-ltb 0 x k))
+      omega (arith, ap parts shares_from ∙ parts_cons x (drop (p + 1) (nums ss)), ap bit (lt-ltb 0 x k))
 
   -- no share is none
   pub parts_same : (n : ℕ) → n + parts (drop p (nums ss)) ≡ parts (nums ss) → (get_or ss p (share 0)).0 ≤ 0
       → n + parts (drop (p + 1) (nums ss)) ≡ parts (nums ss)
   parts_same n e k =
       let x : ℕ = (get_or ss p (share 0)).0 in
-      omega (arith, ap parts shares-from ∙ parts-cons x (drop (p + 1) (nums ss)), ap bit (le-ltb 0 x k))
+      omega (arith, ap parts shares_from ∙ parts_cons x (drop (p + 1) (nums ss)), ap bit (le-ltb 0 x k))
 
   -- the first part stands here
-  pub first-here : p + firstPart (drop p (nums ss)) ≡ firstPart (nums ss) → 0 < (get_or ss p (share 0)).0 → p ≡ firstPart (nums ss)
-  first-here e k =
+  pub first_here : p + first_part (drop p (nums ss)) ≡ first_part (nums ss) → 0 < (get_or ss p (share 0)).0 → p ≡ first_part (nums ss)
+  first_here e k =
       let x : ℕ = (get_or ss p (share 0)).0 in
-      let f : firstPart (drop p (nums ss)) ≡ 0 = rw (shares-from, ne_eqb x 0 (omega arith)) in
+      let f : first_part (drop p (nums ss)) ≡ 0 = rw (shares_from, ne_eqb x 0 (omega arith)) in
       omega arith
 
   -- or further on
-  pub first-later : p + firstPart (drop p (nums ss)) ≡ firstPart (nums ss) → (get_or ss p (share 0)).0 ≤ 0
-      → (p + 1) + firstPart (drop (p + 1) (nums ss)) ≡ firstPart (nums ss)
-  first-later e k =
+  pub first_later : p + first_part (drop p (nums ss)) ≡ first_part (nums ss) → (get_or ss p (share 0)).0 ≤ 0
+      → (p + 1) + first_part (drop (p + 1) (nums ss)) ≡ first_part (nums ss)
+  first_later e k =
       let x : ℕ = (get_or ss p (share 0)).0 in
-      let f : firstPart (drop p (nums ss)) ≡ suc (firstPart (drop (p + 1) (nums ss))) = rw (shares-from, eq-eqb x 0 (omega arith)) in
+      let f : first_part (drop p (nums ss)) ≡ suc (first_part (drop (p + 1) (nums ss))) = rw (shares_from, eq-eqb x 0 (omega arith)) in
       omega arith
 
 -- past the last core nothing is left
 pub none_left : (ss : List Share) (p : ℕ) → length ss ≤ p → drop p (nums ss) ≡ []
-none_left ss p h = drop_of_length-le (nums ss) {i = p} (omega (arith, nums-length ss))
+none_left ss p h = drop_of_length-le (nums ss) {i = p} (omega (arith, nums_length ss))

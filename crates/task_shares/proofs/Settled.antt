@@ -10,14 +10,14 @@ use Rattle.task_shares.proofs.standing.stands.Reads as Stands
 pub sum_of : Settled SumOf.Post
 sum_of κs a x y e f p q = p ∙ sym q
 
-pub parts-of : Settled PartsOf.Post
-parts-of κs a x y e f p q = p ∙ sym q
+pub parts_of_lem : Settled PartsOf.Post
+parts_of_lem κs a x y e f p q = p ∙ sym q
 
-pub first-core : Settled FirstCore.Post
-first-core κs a x y e f p q = p ∙ sym q
+pub first_core_lem : Settled FirstCore.Post
+first_core_lem κs a x y e f p q = p ∙ sym q
 
-pub moves-by : Settled MovesBy.Post
-moves-by κs a x y e f p q = p ∙ sym q
+pub moves_by_lem : Settled MovesBy.Post
+moves_by_lem κs a x y e f p q = p ∙ sym q
 
 pub stands : Settled Stands.Post
 stands κs a x y e f p q = p ∙ sym q

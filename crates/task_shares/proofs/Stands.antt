@@ -15,51 +15,51 @@ use Rattle.units.specs.Units.{share, nums}
 use Rattle.units.proofs.Units.{nums_at}
 use Rattle.lists.specs.Lists.{parts, bit}
 use Rattle.lists.proofs.Tests.{by_cases}
-use Rattle.lists.proofs.Parts.{parts-split}
+use Rattle.lists.proofs.Parts.{parts_split}
 use Rattle.task_shares.specs.declared.standing.Standing.{Standing}
 use Rattle.task_shares.specs.declared.standing.Standing.TheVariants.{Absent, Fixed, Lower, Upper}
-use Rattle.task_shares.specs.Movers.{has, fixed, moves, firstCore, fixedOn, movesOn, lower, upper}
-use Rattle.task_shares.specs.Standing.{standingBy, standingOn}
+use Rattle.task_shares.specs.Movers.{has, fixed, moves, first_core, fixed_on, moves_on, lower, upper}
+use Rattle.task_shares.specs.Standing.{standing_by, standing_on}
 use Rattle.task_shares.specs.contracts.standing.Standing.{the_type}
 
 -- the tests by the standing
-abbrev pub isUpper : Standing → Bool
-isUpper Absent = false
-isUpper Fixed = false
-isUpper Lower = false
-isUpper Upper = true
+abbrev pub is_upper : Standing → Bool
+is_upper Absent = false
+is_upper Fixed = false
+is_upper Lower = false
+is_upper Upper = true
 
-abbrev pub isLower : Standing → Bool
-isLower Absent = false
-isLower Fixed = false
-isLower Lower = true
-isLower Upper = false
+abbrev pub is_lower : Standing → Bool
+is_lower Absent = false
+is_lower Fixed = false
+is_lower Lower = true
+is_lower Upper = false
 
-abbrev pub isFixed : Standing → Bool
-isFixed Absent = false
-isFixed Fixed = true
-isFixed Lower = false
-isFixed Upper = false
+abbrev pub is_fixed : Standing → Bool
+is_fixed Absent = false
+is_fixed Fixed = true
+is_fixed Lower = false
+is_fixed Upper = false
 
-abbrev pub isMover : Standing → Bool
-isMover Absent = false
-isMover Fixed = false
-isMover Lower = true
-isMover Upper = true
+abbrev pub is_mover : Standing → Bool
+is_mover Absent = false
+is_mover Fixed = false
+is_mover Lower = true
+is_mover Upper = true
 
 -- the table of a task that moves or not (m), has a share there or not (h), and its first core there or not (f)
 abbrev table : Bool → Bool → Bool → Standing
 table m h f = cond h (cond m (cond f Lower Upper) Fixed) Absent
 
 -- mover, upper, lower and fixed by it
-table-says : (m h f : Bool)
-    → ((m && h) ≡ isMover (table m h f)) × (((m && h) && not f) ≡ isUpper (table m h f))
-    × (((m && h) && f) ≡ isLower (table m h f)) × ((not m && h) ≡ isFixed (table m h f))
-table-says true true true = (refl, refl, refl, refl)
-table-says true true false = (refl, refl, refl, refl)
-table-says true false f = (refl, refl, refl, refl)
-table-says false true f = (refl, refl, refl, refl)
-table-says false false f = (refl, refl, refl, refl)
+table_says : (m h f : Bool)
+    → ((m && h) ≡ is_mover (table m h f)) × (((m && h) && not f) ≡ is_upper (table m h f))
+    × (((m && h) && f) ≡ is_lower (table m h f)) × ((not m && h) ≡ is_fixed (table m h f))
+table_says true true true = (refl, refl, refl, refl)
+table_says true true false = (refl, refl, refl, refl)
+table_says true false f = (refl, refl, refl, refl)
+table_says false true f = (refl, refl, refl, refl)
+table_says false false f = (refl, refl, refl, refl)
 
 -- of one or more, one is no more than one
 not_more : (n : ℕ) → 0 < n → eqb n 1 ≡ not (ltb 1 n)
@@ -69,33 +69,33 @@ not_more n h =
     (λ e. rw e (eq-eqb n 1 (omega (arith, ltb-false 1 n e))))
 
 module _ (p : ℕ) (row : List ℕ) where
-  pub moves-stands : movesOn p row ≡ isMover (standingOn p row)
-  moves-stands = (table-says (moves row) (has p row) (eqb (firstCore row) p)).0
+  pub moves_stands : moves_on p row ≡ is_mover (standing_on p row)
+  moves_stands = (table_says (moves row) (has p row) (eqb (first_core row) p)).0
 
-  pub upper-stands : upper p row ≡ isUpper (standingOn p row)
-  upper-stands = (table-says (moves row) (has p row) (eqb (firstCore row) p)).1
+  pub upper_stands : upper p row ≡ is_upper (standing_on p row)
+  upper_stands = (table_says (moves row) (has p row) (eqb (first_core row) p)).1
 
-  pub lower-stands : lower p row ≡ isLower (standingOn p row)
-  lower-stands = (table-says (moves row) (has p row) (eqb (firstCore row) p)).2
+  pub lower_stands : lower p row ≡ is_lower (standing_on p row)
+  lower_stands = (table_says (moves row) (has p row) (eqb (first_core row) p)).2
 
   -- with a share and no more than one it is fixed
-  only_one : fixedOn p row ≡ (not (moves row) && has p row)
+  only_one : fixed_on p row ≡ (not (moves row) && has p row)
   only_one =
       by_cases (has p row)
-      (λ e. ap (λ (b : Bool). b && has p row) (not_more (parts row) (omega (arith, parts-split row p, ap bit e))))
+      (λ e. ap (λ (b : Bool). b && has p row) (not_more (parts row) (omega (arith, parts_split row p, ap bit e))))
       (λ e. rw e (and-false (fixed row) ∙ sym (and-false (not (moves row)))))
 
-  pub fixed-stands : fixedOn p row ≡ isFixed (standingOn p row)
-  fixed-stands = only_one ∙ (table-says (moves row) (has p row) (eqb (firstCore row) p)).3
+  pub fixed_stands : fixed_on p row ≡ is_fixed (standing_on p row)
+  fixed_stands = only_one ∙ (table_says (moves row) (has p row) (eqb (first_core row) p)).3
 
 -- what the code finds by a row's numbers
-pub found : (ss : List Share) (p f : ℕ) (m : Bool) → m ≡ moves (nums ss) → f ≡ firstCore (nums ss)
-    → standingBy m (get_or ss p (share 0)).0 f p ≡ standingOn p (nums ss)
+pub found : (ss : List Share) (p f : ℕ) (m : Bool) → m ≡ moves (nums ss) → f ≡ first_core (nums ss)
+    → standing_by m (get_or ss p (share 0)).0 f p ≡ standing_on p (nums ss)
 found ss p f m e g = rw (e, g, nums_at ss p)
 
 -- a match that leaves the upper movers to another arm
-pub but-upper : (s : Standing) → OneOf (0 ∷ 1 ∷ 2 ∷ []) (tag_of the_type s) → isUpper s ≡ false
-but-upper Absent h = refl
-but-upper Fixed h = refl
-but-upper Lower h = refl
-but-upper Upper h = absurd (⊎_elim (λ e. absurd (omega arith)) (⊎_elim (λ e. absurd (omega arith)) (λ e. absurd (omega arith))) h)
+pub but_upper : (s : Standing) → OneOf (0 ∷ 1 ∷ 2 ∷ []) (tag_of the_type s) → is_upper s ≡ false
+but_upper Absent h = refl
+but_upper Fixed h = refl
+but_upper Lower h = refl
+but_upper Upper h = absurd (⊎_elim (λ e. absurd (omega arith)) (⊎_elim (λ e. absurd (omega arith)) (λ e. absurd (omega arith))) h)

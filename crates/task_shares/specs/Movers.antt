@@ -1,6 +1,6 @@
 -- Fixed tasks and movers, by a task's row of shares. Cores are counted from 0.
 use Rattle.std.specs.Prelude.{ℕ, Bool, ◌&&◌, not, List, ltb, eqb, get_or}
-use Rattle.lists.specs.Lists.{parts, firstPart}
+use Rattle.lists.specs.Lists.{parts, first_part}
 
 -- the task has a share on core p
 abbrev pub has : ℕ → List ℕ → Bool
@@ -15,21 +15,21 @@ abbrev pub moves : List ℕ → Bool
 moves row = ltb 1 (parts row)
 
 -- its first core is the lowest numbered
-abbrev pub firstCore : List ℕ → ℕ
-firstCore row = firstPart row
+abbrev pub first_core : List ℕ → ℕ
+first_core row = first_part row
 
 -- a fixed task of core p
-abbrev pub fixedOn : ℕ → List ℕ → Bool
-fixedOn p row = fixed row && has p row
+abbrev pub fixed_on : ℕ → List ℕ → Bool
+fixed_on p row = fixed row && has p row
 
 -- a mover on core p
-abbrev pub movesOn : ℕ → List ℕ → Bool
-movesOn p row = moves row && has p row
+abbrev pub moves_on : ℕ → List ℕ → Bool
+moves_on p row = moves row && has p row
 
 -- a mover is lower on its first core
 abbrev pub lower : ℕ → List ℕ → Bool
-lower p row = movesOn p row && eqb (firstCore row) p
+lower p row = moves_on p row && eqb (first_core row) p
 
 -- and upper on any other
 abbrev pub upper : ℕ → List ℕ → Bool
-upper p row = movesOn p row && not (eqb (firstCore row) p)
+upper p row = moves_on p row && not (eqb (first_core row) p)

@@ -1,6 +1,6 @@
 // A row of shares, one for each core: its sum, how many are positive, its first core.
 ghost use Rattle.std.specs.Prelude.{◌≡◌};
-ghost use Rattle.lists.specs.Lists.{total as sum_of, parts as parts_of, firstPart};
+ghost use Rattle.lists.specs.Lists.{total as sum_of, parts as parts_of, first_part};
 ghost use Rattle.units.specs.Units.{nums};
 
 use units::limits::CORES;
@@ -38,7 +38,7 @@ pub fn parts_of(shares: [Share; CORES]) -> usize
 
 // The lowest core with a share, CORES where there is none.
 pub fn first_core(shares: [Share; CORES]) -> usize
-    ensures { result ≡ firstPart (nums shares) }
+    ensures { result ≡ first_part (nums shares) }
 {
     let mut p: usize = 0;
     while p < CORES {

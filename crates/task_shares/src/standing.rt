@@ -1,6 +1,6 @@
 // How a task stands on a core.
 ghost use Rattle.std.specs.Prelude.{◌≡◌, ltb};
-ghost use Rattle.task_shares.specs.Standing.{standingBy};
+ghost use Rattle.task_shares.specs.Standing.{standing_by};
 
 use units::share::Share;
 
@@ -22,7 +22,7 @@ pub fn moves_by(parts: usize) -> bool
 
 // By numbers alone, so that no row is copied: whether the task moves, its share on the core and its first core.
 pub fn stands(moves: bool, share: Share, first: usize, core: usize) -> Standing
-    ensures { result ≡ standingBy moves share.0 first core }
+    ensures { result ≡ standing_by moves share.0 first core }
 {
     if share.0 == 0 {
         return Standing::Absent;

@@ -6,12 +6,12 @@ use native.Mathlib.Omega.{arith}
 use lib.ListN.{length, get_or, drop, drop_of_length-le, length-append, length-drop, length-map}
 use lib.Seq.{drop-cons}
 use Rattle.units.specs.declared.ticks.Ticks.{Ticks}
-use Rattle.units.specs.Limits.{runsLimit}
+use Rattle.units.specs.Limits.{runs_limit}
 use Rattle.units.specs.contracts.ticks.Ticks.{the_field}
 
 -- the length of a task's array of deadlines
-pub deadlines-long : (ds : List Ticks) → length (map the_field.into ds) ≡ runsLimit → length ds ≡ runsLimit
-deadlines-long ds e = sym (length-map ds the_field.into) ∙ e
+pub deadlines_long : (ds : List Ticks) → length (map the_field.into ds) ≡ runs_limit → length ds ≡ runs_limit
+deadlines_long ds e = sym (length-map ds the_field.into) ∙ e
 
 module _ {A : Type 0} (none : A) where
   -- none at the end of a list is as if it stood past it
@@ -27,16 +27,16 @@ module _ {A : Type 0} (none : A) where
   next_up (x ∷ xs) k = none_last xs k
 
   -- seven move up and none comes last
-  abbrev pub movedUp : List A → List A
-  movedUp xs = get_or xs 1 none ∷ get_or xs 2 none ∷ get_or xs 3 none ∷ get_or xs 4 none ∷ get_or xs 5 none ∷ get_or xs 6 none ∷ get_or xs 7 none ∷ none ∷ []
+  abbrev pub moved_up : List A → List A
+  moved_up xs = get_or xs 1 none ∷ get_or xs 2 none ∷ get_or xs 3 none ∷ get_or xs 4 none ∷ get_or xs 5 none ∷ get_or xs 6 none ∷ get_or xs 7 none ∷ none ∷ []
 
-  module _ (xs : List A) (e : length xs ≡ runsLimit) where
+  module _ (xs : List A) (e : length xs ≡ runs_limit) where
     -- the length stays
-    pub up-long : length (drop 1 xs ++ (none ∷ [])) ≡ runsLimit
-    up-long = length-append (drop 1 xs) (none ∷ []) ∙ simp length-drop (omega (arith, e))
+    pub up_long : length (drop 1 xs ++ (none ∷ [])) ≡ runs_limit
+    up_long = length-append (drop 1 xs) (none ∷ []) ∙ simp length-drop (omega (arith, e))
 
-    pub moved_up : drop 1 xs ++ (none ∷ []) ≡ movedUp xs
-    moved_up =
+    pub moved_up_lem : drop 1 xs ++ (none ∷ []) ≡ moved_up xs
+    moved_up_lem =
         rw (
           drop-cons xs 1 none (omega arith),
           drop-cons xs 2 none (omega arith),

@@ -5,34 +5,34 @@ use mathlib.Core.Bool.{false, ◌||◌}
 use native.Mathlib.Omega.{arith}
 use borrow.Author.Tests.{eqb-false, ltb-false}
 use lib.Dec.{ltb, eqb}
-use Rattle.units.specs.Limits.{clockLimit, runsLimit}
-use Rattle.lists.proofs.Tests.{by_cases, or-false-left}
+use Rattle.units.specs.Limits.{clock_limit, runs_limit}
+use Rattle.lists.proofs.Tests.{by_cases, or_false_left}
 use Rattle.planning.specs.declared.Line.{Line}
 use Rattle.task_state.specs.declared.State.{State}
 use Rattle.task_state.specs.State.{run_at}
-use Rattle.task_state.specs.Due.{releaseAt, held}
-use Rattle.task_state.specs.Tests.{releaseTests, finishTests}
+use Rattle.task_state.specs.Due.{release_at, held}
+use Rattle.task_state.specs.Tests.{release_tests, finish_tests}
 
 module _ (ln : Line) (st : State) (t : ℕ) where
-  module _ (e : releaseTests ln st t ≡ 0) where
+  module _ (e : release_tests ln st t ≡ 0) where
     -- a release's time is not above the clock's limit
-    in-range : ltb clockLimit (releaseAt ln st t) ≡ false
-    in-range = by_cases (ltb clockLimit (releaseAt ln st t)) (λ b. absurd (omega (arith, rw b at e))) (λ b. b)
+    in_range : ltb clock_limit (release_at ln st t) ≡ false
+    in_range = by_cases (ltb clock_limit (release_at ln st t)) (λ b. absurd (omega (arith, rw b at e))) (λ b. b)
 
-    pub release-in : releaseAt ln st t ≤ clockLimit
-    release-in = ltb-false clockLimit (releaseAt ln st t) in-range
+    pub release_in : release_at ln st t ≤ clock_limit
+    release_in = ltb-false clock_limit (release_at ln st t) in_range
 
     -- and it finds room for a run
-    pub has_room : st.live ≤ runsLimit → st.live < runsLimit
+    pub has_room : st.live ≤ runs_limit → st.live < runs_limit
     has_room h =
-        by_cases (eqb st.live runsLimit)
-        (λ b. absurd (omega (arith, rw (in-range, b) at e)))
-        (λ b. omega (arith, eqb-false st.live runsLimit b))
+        by_cases (eqb st.live runs_limit)
+        (λ b. absurd (omega (arith, rw (in_range, b) at e)))
+        (λ b. omega (arith, eqb-false st.live runs_limit b))
 
-  module _ (e : finishTests ln st t ≡ 0) where
+  module _ (e : finish_tests ln st t ≡ 0) where
     -- a finish finds an oldest run that is not held
     found : (eqb st.live 0 || held ln (run_at st 0) t) ≡ false
     found = by_cases (eqb st.live 0 || held ln (run_at st 0) t) (λ b. absurd (omega (arith, rw b at e))) (λ b. b)
 
-    pub has-run : 0 < st.live
-    has-run = omega (arith, eqb-false st.live 0 (or-false-left (eqb st.live 0) (held ln (run_at st 0) t) found))
+    pub has_run : 0 < st.live
+    has_run = omega (arith, eqb-false st.live 0 (or_false_left (eqb st.live 0) (held ln (run_at st 0) t) found))

@@ -9,20 +9,20 @@ use Rattle.task_state.proofs.State.without_run.Reads as WithoutRun
 use Rattle.task_state.proofs.State.waits.Reads as Waits
 use Rattle.task_state.proofs.State.key.Reads as Key
 
-pub due-after : Settled DueAfter.Post
-due-after κs a x y e f p q = p ∙ sym q
+pub due_after_lem : Settled DueAfter.Post
+due_after_lem κs a x y e f p q = p ∙ sym q
 
-pub release-tests : Settled ReleaseTests.Post
-release-tests κs a x y e f p q = p ∙ sym q
+pub release_tests_lem : Settled ReleaseTests.Post
+release_tests_lem κs a x y e f p q = p ∙ sym q
 
-pub finish-tests : Settled FinishTests.Post
-finish-tests κs a x y e f p q = p ∙ sym q
+pub finish_tests_lem : Settled FinishTests.Post
+finish_tests_lem κs a x y e f p q = p ∙ sym q
 
-pub with-run : Settled WithRun.Post
-with-run κs a x y e f p q = p ∙ sym q
+pub with_run_lem : Settled WithRun.Post
+with_run_lem κs a x y e f p q = p ∙ sym q
 
-pub without-run : Settled WithoutRun.Post
-without-run κs a x y e f p q = p ∙ sym q
+pub without_run_lem : Settled WithoutRun.Post
+without_run_lem κs a x y e f p q = p ∙ sym q
 
 pub waits : Settled Waits.Post
 waits κs a x y e f p q = p ∙ sym q

@@ -1,7 +1,7 @@
 // Who goes first on a core.
 ghost use Rattle.std.specs.Prelude.{◌≡◌, ◌+◌, ◌<◌, ◌≤◌};
-ghost use Rattle.units.specs.Limits.{coresLimit, clockLimit, periodLimit};
-ghost use Rattle.task_state.specs.Key.{deadlineOf, waits as waitsOn, key_of};
+ghost use Rattle.units.specs.Limits.{cores_limit, clock_limit, period_limit};
+ghost use Rattle.task_state.specs.Key.{deadline_of, waits as waitsOn, key_of};
 
 use crate::State;
 use crate::due::due_after;
@@ -14,7 +14,7 @@ use units::ticks::Ticks;
 impl State {
     // Its oldest unfinished run is on this core, from 1, and not held.
     pub fn waits(self, line: Line, core: usize, time: Ticks) -> bool
-        requires { time.0 ≤ clockLimit }
+        requires { time.0 ≤ clock_limit }
         ensures { result ≡ waitsOn line self core time.0 }
     {
         let at = self.cores[0];
@@ -26,7 +26,7 @@ impl State {
 
     // The least key goes first: an upper mover, then a lower one, then fixed tasks by earliest deadline.
     pub fn key(self, line: Line, core: usize) -> u64
-        requires { (0 < core) × (core ≤ coresLimit) × (deadlineOf self ≤ clockLimit + periodLimit) }
+        requires { (0 < core) × (core ≤ cores_limit) × (deadline_of self ≤ clock_limit + period_limit) }
         ensures { result ≡ key_of line self core }
     {
         let shares = line.shares;

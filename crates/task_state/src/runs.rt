@@ -1,6 +1,6 @@
 // A task's runs: one more, and the oldest ended.
 ghost use Rattle.std.specs.Prelude.{◌≡◌, ◌<◌};
-ghost use Rattle.task_state.specs.Runs.{takenRun, withoutRun};
+ghost use Rattle.task_state.specs.Runs.{taken_run, without_run};
 ghost use Rattle.task_state.specs.Inner.{Releasable};
 
 use crate::State;
@@ -22,7 +22,7 @@ impl State {
     // One run more, from its release time on, counted in the turn cycle.
     pub fn with_run(self, line: Line, time: Ticks) -> Taken
         requires { Releasable line self time.0 }
-        ensures { result ≡ takenRun line self time.0 }
+        ensures { result ≡ taken_run line self time.0 }
     {
         let shares = line.shares;
         let counts = self.counts;
@@ -54,7 +54,7 @@ impl State {
     // Without the oldest run: the others move up.
     pub fn without_run(self) -> State
         requires { 0 < self.live }
-        ensures { result ≡ withoutRun self }
+        ensures { result ≡ without_run self }
     {
         let d1 = self.deadlines[1];
         let d2 = self.deadlines[2];

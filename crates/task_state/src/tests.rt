@@ -1,7 +1,7 @@
 // What a task's own state is tested for.
 ghost use Rattle.std.specs.Prelude.{◌≡◌, ◌≤◌};
-ghost use Rattle.units.specs.Limits.{clockLimit};
-ghost use Rattle.task_state.specs.Tests.{releaseTests, finishTests};
+ghost use Rattle.units.specs.Limits.{clock_limit};
+ghost use Rattle.task_state.specs.Tests.{release_tests, finish_tests};
 
 use crate::State;
 use crate::due::due_after;
@@ -13,8 +13,8 @@ use units::ticks::Ticks;
 impl State {
     // Those of a release: 12 for its release time, then 10.
     pub fn release_tests(self, line: Line, time: Ticks) -> u32
-        requires { self.last.0 ≤ clockLimit }
-        ensures { result ≡ releaseTests line self time.0 }
+        requires { self.last.0 ≤ clock_limit }
+        ensures { result ≡ release_tests line self time.0 }
     {
         let last = self.last;
         let period = line.period;
@@ -24,8 +24,8 @@ impl State {
 
     // That of a finish: 11.
     pub fn finish_tests(self, line: Line, time: Ticks) -> u32
-        requires { time.0 ≤ clockLimit }
-        ensures { result ≡ finishTests line self time.0 }
+        requires { time.0 ≤ clock_limit }
+        ensures { result ≡ finish_tests line self time.0 }
     {
         let oldest = self.deadlines[0];
         let after = due_after(line);

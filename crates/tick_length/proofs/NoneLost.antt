@@ -4,22 +4,22 @@ use mathlib.Core.Path.{◌≡◌}
 use native.Mathlib.Nat.{div-add-mod', mod-lt, div-eq_of_lt-le}
 use native.Mathlib.Omega.{arith}
 use borrow.Author.Tests.{lt-ltb, le-ltb}
-use Rattle.tick_length.specs.Ticks.{costTicks, periodTicks}
+use Rattle.tick_length.specs.Ticks.{cost_ticks, period_ticks}
 use Rattle.tick_length.specs.Inner.{held}
 
 -- a cost of whole ticks is so many
-pub cost-whole : (tick c : ℕ) → 0 < tick → costTicks tick (c * tick) ≡ c
-cost-whole tick c h = div-eq_of_lt-le tick (omega arith) (omega arith)
+pub cost_whole : (tick c : ℕ) → 0 < tick → cost_ticks tick (c * tick) ≡ c
+cost_whole tick c h = div-eq_of_lt-le tick (omega arith) (omega arith)
 
 -- a period of whole ticks is so many
-pub period-whole : (tick t : ℕ) → 0 < tick → periodTicks tick (t * tick) ≡ t
-period-whole tick t h = div-eq_of_lt-le tick (omega arith) (omega arith)
+pub period_whole : (tick t : ℕ) → 0 < tick → period_ticks tick (t * tick) ≡ t
+period_whole tick t h = div-eq_of_lt-le tick (omega arith) (omega arith)
 
 -- a cost grows by less than a tick, and a period falls by less than one
-pub none-lost : (tick cost period : ℕ) → 0 < tick
-    → (cost ≤ costTicks tick cost * tick) × (costTicks tick cost * tick < cost + tick) × (period < periodTicks tick period * tick + tick)
-    × (periodTicks tick period * tick ≤ period)
-none-lost tick cost period h =
+pub none_lost : (tick cost period : ℕ) → 0 < tick
+    → (cost ≤ cost_ticks tick cost * tick) × (cost_ticks tick cost * tick < cost + tick) × (period < period_ticks tick period * tick + tick)
+    × (period_ticks tick period * tick ≤ period)
+none_lost tick cost period h =
     let c = div-add-mod' (cost + (tick - 1)) tick in
     let r = mod-lt (cost + (tick - 1)) h in
     let p = div-add-mod' period tick in
@@ -31,5 +31,5 @@ pub held_small : (n : ℕ) → n < 4294967296 → held n ≡ n
 held_small n h = rw (lt-ltb n 4294967296 h)
 
 -- and the largest of them in place of another
-pub held-large : (n : ℕ) → 4294967296 ≤ n → held n ≡ 4294967295
-held-large n h = rw (le-ltb n 4294967296 h)
+pub held_large : (n : ℕ) → 4294967296 ≤ n → held n ≡ 4294967295
+held_large n h = rw (le-ltb n 4294967296 h)

@@ -1,19 +1,19 @@
 -- Document 02, R-1: nanoseconds as ticks of a tick length. Costs round up, periods round down.
 use Rattle.std.specs.Prelude.{ℕ, ◌/◌, Bool, ◌&&◌, ltb, leb}
-use Rattle.arith.specs.Ceiling.{ceilDiv}
+use Rattle.arith.specs.Ceiling.{ceil_div}
 
 -- the longest tick, in nanoseconds
-abbrev pub tickLimit : ℕ
-tickLimit = 1000000
+abbrev pub tick_limit : ℕ
+tick_limit = 1000000
 
 -- a tick length is in range, 1 to 1,000,000
-abbrev pub tickIn : ℕ → Bool
-tickIn tick = ltb 0 tick && leb tick tickLimit
+abbrev pub tick_in : ℕ → Bool
+tick_in tick = ltb 0 tick && leb tick tick_limit
 
 -- a cost in ticks, rounded up
-abbrev pub costTicks : ℕ → ℕ → ℕ
-costTicks tick ns = ceilDiv ns tick
+abbrev pub cost_ticks : ℕ → ℕ → ℕ
+cost_ticks tick ns = ceil_div ns tick
 
 -- a period in ticks, rounded down
-abbrev pub periodTicks : ℕ → ℕ → ℕ
-periodTicks tick ns = ns / tick
+abbrev pub period_ticks : ℕ → ℕ → ℕ
+period_ticks tick ns = ns / tick

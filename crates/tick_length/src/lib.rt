@@ -1,6 +1,6 @@
 // Nanoseconds as ticks of a tick length: costs round up, periods round down.
 ghost use Rattle.std.specs.Prelude.{◌≡◌, cond, ◌<◌};
-ghost use Rattle.tick_length.specs.Ticks.{tickIn, costTicks, periodTicks};
+ghost use Rattle.tick_length.specs.Ticks.{tick_in, cost_ticks, period_ticks};
 ghost use Rattle.tick_length.specs.Inner.{held};
 
 use arith::ceiling::ceil_div;
@@ -10,7 +10,7 @@ pub const LONGEST: u64 = 1_000_000;
 
 // Whether a tick length is in range.
 pub fn tick_in(tick: u64) -> bool
-    ensures { result ≡ tickIn tick }
+    ensures { result ≡ tick_in tick }
 {
     (0 < tick) & (tick <= LONGEST)
 }
@@ -29,7 +29,7 @@ fn hold(n: u64) -> u32
 // Nanoseconds in ticks, rounded up or down.
 fn rounded(time: u64, tick: u64, up: bool) -> u64
     requires { 0 < tick }
-    ensures { result ≡ cond up (costTicks tick time) (periodTicks tick time) }
+    ensures { result ≡ cond up (cost_ticks tick time) (period_ticks tick time) }
 {
     if up {
         ceil_div(time, tick)
@@ -41,7 +41,7 @@ fn rounded(time: u64, tick: u64, up: bool) -> u64
 // A cost in ticks, rounded up.
 pub fn cost_ticks(cost: u64, tick: u64) -> u32
     requires { 0 < tick }
-    ensures { result ≡ held (costTicks tick cost) }
+    ensures { result ≡ held (cost_ticks tick cost) }
 {
     hold(rounded(cost, tick, true))
 }
@@ -49,7 +49,7 @@ pub fn cost_ticks(cost: u64, tick: u64) -> u32
 // A period in ticks, rounded down.
 pub fn period_ticks(period: u64, tick: u64) -> u32
     requires { 0 < tick }
-    ensures { result ≡ held (periodTicks tick period) }
+    ensures { result ≡ held (period_ticks tick period) }
 {
     hold(rounded(period, tick, false))
 }

@@ -18,20 +18,20 @@ behind w d (s ∷ ss) [] = 0
 behind w d (s ∷ ss) (n ∷ ns) = gap w d s n + behind w d ss ns
 
 -- a bound on each core is one on all
-pub behind-bound : (w d e : ℕ) (ss ns : List ℕ) → ((i : ℕ) → i < length ss → gap w d (get_or ss i 0) (get_or ns i 0) * w ≤ get_or ss i 0 * e)
+pub behind_bound : (w d e : ℕ) (ss ns : List ℕ) → ((i : ℕ) → i < length ss → gap w d (get_or ss i 0) (get_or ns i 0) * w ≤ get_or ss i 0 * e)
     → behind w d ss ns * w ≤ total ss * e
 unfolding behind
-behind-bound w d e [] ns h = omega arith
-behind-bound w d e (s ∷ ss) [] h = omega arith
-behind-bound w d e (s ∷ ss) (n ∷ ns) h = omega (arith, h 0 (omega arith), behind-bound w d e ss ns (λ i l. h (suc i) (omega arith)))
+behind_bound w d e [] ns h = omega arith
+behind_bound w d e (s ∷ ss) [] h = omega arith
+behind_bound w d e (s ∷ ss) (n ∷ ns) h = omega (arith, h 0 (omega arith), behind_bound w d e ss ns (λ i l. h (suc i) (omega arith)))
 
 -- each core is behind by no more than all
-pub behind-part : (w d : ℕ) (ss ns : List ℕ) (i : ℕ) → i < length ss → i < length ns → gap w d (get_or ss i 0) (get_or ns i 0) ≤ behind w d ss ns
+pub behind_part : (w d : ℕ) (ss ns : List ℕ) (i : ℕ) → i < length ss → i < length ns → gap w d (get_or ss i 0) (get_or ns i 0) ≤ behind w d ss ns
 unfolding behind
-behind-part w d [] ns i l m = absurd (omega arith)
-behind-part w d (s ∷ ss) [] i l m = absurd (omega arith)
-behind-part w d (s ∷ ss) (n ∷ ns) zero l m = omega arith
-behind-part w d (s ∷ ss) (n ∷ ns) (suc i) l m = omega (arith, behind-part w d ss ns i (omega arith) (omega arith))
+behind_part w d [] ns i l m = absurd (omega arith)
+behind_part w d (s ∷ ss) [] i l m = absurd (omega arith)
+behind_part w d (s ∷ ss) (n ∷ ns) zero l m = omega arith
+behind_part w d (s ∷ ss) (n ∷ ns) (suc i) l m = omega (arith, behind_part w d ss ns i (omega arith) (omega arith))
 
 -- a run more changes the gap of its core only
 pub behind_more : (w d : ℕ) (ss ns : List ℕ) (j : ℕ) → j < length ss → j < length ns

@@ -6,39 +6,39 @@ use native.Mathlib.Nat.{div-lt_iff_lt-mul, lt_of_mul-lt-mul_right, le_refl}
 use native.Mathlib.Omega.{arith}
 use lib.ListN.{length, get_or, take}
 use borrow.Author.Tests.{lt-ltb}
-use Rattle.units.specs.Limits.{coresLimit}
-use Rattle.lists.specs.Lists.{total, parts, firstPart, bit}
+use Rattle.units.specs.Limits.{cores_limit}
+use Rattle.lists.specs.Lists.{total, parts, first_part, bit}
 use Rattle.lists.proofs.Lists.{parts_none}
-use Rattle.lists.proofs.Parts.{parts-split, first-is}
-use Rattle.arith.specs.Ceiling.{ceilDiv}
-use Rattle.arith.proofs.Rounding.{ceil-least}
-use Rattle.turn.proofs.Choice.{Picked, open-share, choice}
-use Rattle.turn.proofs.Counting.{turn-core}
-use Rattle.turn.specs.Runs.{turnAfter, coreOfRun}
+use Rattle.lists.proofs.Parts.{parts_split, first_is}
+use Rattle.arith.specs.Ceiling.{ceil_div}
+use Rattle.arith.proofs.Rounding.{ceil_least}
+use Rattle.turn.proofs.Choice.{Picked, open_share, choice}
+use Rattle.turn.proofs.Counting.{turn_core}
+use Rattle.turn.specs.Runs.{turn_after, core_of_run}
 use Rattle.turn.proofs.Sent.{sent}
-use Rattle.turn.proofs.Pace.{pace-behind}
+use Rattle.turn.proofs.Pace.{pace_behind}
 use Rattle.turn.proofs.Cycle.{state}
 
-module _ (w : ℕ) (ss : List ℕ) (pos : 0 < w) (shares : total ss ≡ w) (long : length ss ≡ coresLimit) where
+module _ (w : ℕ) (ss : List ℕ) (pos : 0 < w) (shares : total ss ≡ w) (long : length ss ≡ cores_limit) where
   -- of the first c runs a core has had less than one more or less than its part
   pub near : (c p : ℕ) → (sent w ss (suc p) c * w < get_or ss p 0 * c + w) × (get_or ss p 0 * c < sent w ss (suc p) c * w + w)
   near c p =
       let s = state w ss pos shares long c in
       let x = get_or ss p 0 in
-      let all : (s.cycles * w + (turnAfter w ss c).place) * x ≡ c * x = ap (λ (n : ℕ). n * x) s.number in
-      let here : sent w ss (suc p) c * w ≡ (s.cycles * x + get_or (turnAfter w ss c).counts p 0) * w = ap (λ (n : ℕ). n * w) (s.runs p) in
+      let all : (s.cycles * w + (turn_after w ss c).place) * x ≡ c * x = ap (λ (n : ℕ). n * x) s.number in
+      let here : sent w ss (suc p) c * w ≡ (s.cycles * x + get_or (turn_after w ss c).counts p 0) * w = ap (λ (n : ℕ). n * w) (s.runs p) in
       let low = s.pace.ahead p in
-      let high = pace-behind w (turnAfter w ss c).place ss (turnAfter w ss c).counts pos s.pace p in
+      let high = pace_behind w (turn_after w ss c).place ss (turn_after w ss c).counts pos s.pace p in
       (omega arith, omega arith)
 
   -- that is, its part rounded down or up
-  pub rounded : (c p : ℕ) → (get_or ss p 0 * c / w ≤ sent w ss (suc p) c) × (sent w ss (suc p) c ≤ ceilDiv (get_or ss p 0 * c) w)
+  pub rounded : (c p : ℕ) → (get_or ss p 0 * c / w ≤ sent w ss (suc p) c) × (sent w ss (suc p) c ≤ ceil_div (get_or ss p 0 * c) w)
   rounded c p =
       let x = get_or ss p 0 * c in
       let n = near c p in
       let low : x / w < sent w ss (suc p) c + 1 = (div-lt_iff_lt-mul pos).1 (omega arith) in
-      let top : x ≤ ceilDiv x w * w = (ceil-least x w (ceilDiv x w) pos).0 (le_refl _) in
-      let high : sent w ss (suc p) c < ceilDiv x w + 1 = lt_of_mul-lt-mul_right w (omega arith) in
+      let top : x ≤ ceil_div x w * w = (ceil_least x w (ceil_div x w) pos).0 (le_refl _) in
+      let high : sent w ss (suc p) c < ceil_div x w + 1 = lt_of_mul-lt-mul_right w (omega arith) in
       (omega arith, omega arith)
 
   -- of any c runs in a row after a, x of them, less than two away from its part
@@ -46,7 +46,7 @@ module _ (w : ℕ) (ss : List ℕ) (pos : 0 < w) (shares : total ss ≡ w) (long
   in_a_row a c p x e =
       let all : sent w ss (suc p) (a + c) * w ≡ (sent w ss (suc p) a + x) * w = ap (λ (n : ℕ). n * w) e in
       let before = near a p in
-      let turnAfter = near (a + c) p in
+      let turn_after = near (a + c) p in
       (omega arith, omega arith)
 
   -- of w runs exactly its share, and so of any number of cycles
@@ -58,17 +58,17 @@ module _ (w : ℕ) (ss : List ℕ) (pos : 0 < w) (shares : total ss ≡ w) (long
       omega arith
 
   -- the core of a run is the one that the search picks with the counts of its cycle
-  pub run-picked : (c : ℕ) → (j : ℕ) × (coreOfRun w ss c ≡ suc j) × Picked w (turnAfter w ss c).place ss (turnAfter w ss c).counts coresLimit j
-  unfolding coreOfRun turnAfter
-  run-picked c =
+  pub run_picked : (c : ℕ) → (j : ℕ) × (core_of_run w ss c ≡ suc j) × Picked w (turn_after w ss c).place ss (turn_after w ss c).counts cores_limit j
+  unfolding core_of_run turn_after
+  run_picked c =
       let p = (state w ss pos shares long c).pace in
-      let x = choice w (turnAfter w ss c).place ss (turnAfter w ss c).counts pos shares p.all p.same in
-      (x.0, turn-core w (turnAfter w ss c).place ss (turnAfter w ss c).counts ∙ x.1, rw long at x.2)
+      let x = choice w (turn_after w ss c).place ss (turn_after w ss c).counts pos shares p.all p.same in
+      (x.0, turn_core w (turn_after w ss c).place ss (turn_after w ss c).counts ∙ x.1, rw long at x.2)
 
   -- every run of a task with one positive share goes to its core
-  pub fixed : parts ss ≡ 1 → (c : ℕ) → coreOfRun w ss c ≡ firstPart ss + 1
+  pub fixed : parts ss ≡ 1 → (c : ℕ) → core_of_run w ss c ≡ first_part ss + 1
   fixed e c =
-      let x = run-picked c in
-      let h : 0 < get_or ss x.0 0 = open-share w (turnAfter w ss c).place ss (turnAfter w ss c).counts x.0 x.2.opened in
-      let none = parts_none (take x.0 ss) (omega (arith, parts-split ss x.0, ap bit (lt-ltb 0 (get_or ss x.0 0) h))) in
-      omega (arith, x.1, first-is ss x.0 h none)
+      let x = run_picked c in
+      let h : 0 < get_or ss x.0 0 = open_share w (turn_after w ss c).place ss (turn_after w ss c).counts x.0 x.2.opened in
+      let none = parts_none (take x.0 ss) (omega (arith, parts_split ss x.0, ap bit (lt-ltb 0 (get_or ss x.0 0) h))) in
+      omega (arith, x.1, first_is ss x.0 h none)

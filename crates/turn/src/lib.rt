@@ -1,9 +1,9 @@
 // Which core a run goes to: a one-processor Pfair rule.
 ghost use Rattle.std.specs.Prelude.{◌≤◌, ◌<◌, ◌≡◌};
-ghost use Rattle.units.specs.Limits.{coresLimit};
+ghost use Rattle.units.specs.Limits.{cores_limit};
 ghost use Rattle.units.specs.Units.{nums};
 ghost use Rattle.lists.specs.Lists.{total};
-ghost use Rattle.turn.specs.Turn.{betterCore, counted as countedOf, turn_of};
+ghost use Rattle.turn.specs.Turn.{better_core, counted as countedOf, turn_of};
 ghost use Rattle.turn.specs.Inner.{Turnable};
 
 use arith::ceiling::ceil_div;
@@ -27,7 +27,7 @@ pub struct Turn {
 
 // The best core when core j, of this share and count, is looked at too.
 fn better_core(best: Best, j: usize, share: u32, count: u32, weight: u32, place: u32) -> Best
-    ensures { result ≡ betterCore weight place best j share count }
+    ensures { result ≡ better_core weight place best j share count }
 {
     let w = weight as u64;
     let s = share as u64;
@@ -62,7 +62,7 @@ pub fn turn_of(weight: Share, place: u32, shares: [Share; CORES], counts: [u32; 
 
 // The run is counted; after the last run of a cycle counts and place start from 0 again.
 fn counted(core: usize, counts: [u32; CORES], weight: u32, place: u32) -> Turn
-    requires { (0 < core) × (core ≤ coresLimit) × (place < weight) × (total counts ≡ place) }
+    requires { (0 < core) × (core ≤ cores_limit) × (place < weight) × (total counts ≡ place) }
     ensures { result ≡ countedOf weight place counts core }
 {
     if place + 1 == weight {

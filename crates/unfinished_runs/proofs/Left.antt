@@ -12,12 +12,12 @@ use Rattle.task_state.specs.State.{run_at}
 use Rattle.run_lengths.specs.declared.Work.{Work}
 use Rattle.run_lengths.specs.Work.{length_at, number_at}
 use Rattle.seats.specs.declared.Seat.{Seat}
-use Rattle.seats.specs.Seat.{noSeat}
+use Rattle.seats.specs.Seat.{no_seat}
 use Rattle.day_lines.specs.declared.Event.TheVariants.{Unfinished}
-use Rattle.day_lines.specs.Lines.{eventText}
-use Rattle.day_rules.specs.Day.{runsLeft}
-use Rattle.unfinished_runs.specs.Inner.{runLeft}
-use Rattle.unfinished_runs.specs.Left.{leftBy}
+use Rattle.day_lines.specs.Lines.{event_text}
+use Rattle.day_rules.specs.Day.{runs_left}
+use Rattle.unfinished_runs.specs.Inner.{run_left}
+use Rattle.unfinished_runs.specs.Left.{left_by}
 
 -- the ticks had are those of the oldest run
 module _ {x : ℕ} (k had : ℕ) where
@@ -28,17 +28,17 @@ module _ {x : ℕ} (k had : ℕ) where
   younger z e = rw (ne_eqb k 0 z) e
 
 -- a run left, with the ticks it has had
-pub run-told : (st : State) (wk : Work) (had i k : ℕ) {x : ℕ} → x ≡ cond (eqb k 0) had 0
-    → eventText (Unfinished (record { core = (run_at st k).core; task = i; run = number_at wk k }) (run_at st k).deadline x (length_at wk k))
-    ≡ eventText (runLeft st wk had i k)
-run-told st wk had i k e =
-    ap (λ (x : ℕ). eventText (Unfinished (record { core = (run_at st k).core; task = i; run = number_at wk k }) (run_at st k).deadline x (length_at wk k))) e
+pub run_told : (st : State) (wk : Work) (had i k : ℕ) {x : ℕ} → x ≡ cond (eqb k 0) had 0
+    → event_text (Unfinished (record { core = (run_at st k).core; task = i; run = number_at wk k }) (run_at st k).deadline x (length_at wk k))
+    ≡ event_text (run_left st wk had i k)
+run_told st wk had i k e =
+    ap (λ (x : ℕ). event_text (Unfinished (record { core = (run_at st k).core; task = i; run = number_at wk k }) (run_at st k).deadline x (length_at wk k))) e
 
 -- one run more
-pub runs-more : (st : State) (wk : Work) (had i k : ℕ) → runsLeft st wk had i k ++ (runLeft st wk had i k ∷ []) ≡ runsLeft st wk had i (k + 1)
-runs-more st wk had i k = ap (runsLeft st wk had i) (sym (add-one k))
+pub runs_more : (st : State) (wk : Work) (had i k : ℕ) → runs_left st wk had i k ++ (run_left st wk had i k ∷ []) ≡ runs_left st wk had i (k + 1)
+runs_more st wk had i k = ap (runs_left st wk had i) (sym (add-one k))
 
 -- one task more, whose runs are told with its number, from 1
-pub left-more : (ss : List Seat) (hs : List ℕ) (k : ℕ) {i : ℕ} → i ≡ suc k
-    → let x = get_or ss k noSeat in leftBy ss hs k ++ runsLeft x.state x.work (get_or hs k 0) i x.state.live ≡ leftBy ss hs (k + 1)
-left-more ss hs k e = rw e (ap (leftBy ss hs) (sym (add-one k)))
+pub left_more : (ss : List Seat) (hs : List ℕ) (k : ℕ) {i : ℕ} → i ≡ suc k
+    → let x = get_or ss k no_seat in left_by ss hs k ++ runs_left x.state x.work (get_or hs k 0) i x.state.live ≡ left_by ss hs (k + 1)
+left_more ss hs k e = rw e (ap (left_by ss hs) (sym (add-one k)))

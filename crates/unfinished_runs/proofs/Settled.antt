@@ -3,5 +3,5 @@ use Rattle.lists.specs.Settled.{SettledLent}
 use Rattle.day_window.proofs.Windows.{settled}
 use Rattle.unfinished_runs.proofs.put_unfinished.Reads as PutUnfinished
 
-pub put-unfinished : SettledLent (λ κs e. e.0.now) PutUnfinished.Post
-put-unfinished κs a x y e f p q = settled p.0 q.0
+pub put_unfinished_lem : SettledLent (λ κs e. e.0.now) PutUnfinished.Post
+put_unfinished_lem κs a x y e f p q = settled p.0 q.0

@@ -8,7 +8,7 @@ use Rattle.day_lines.specs.declared.Event.{Event}
 use Rattle.day_lines.specs.declared.Event.TheVariants.{Unfinished}
 
 -- the k-th unfinished run, from 0, of task i, from 1, as `runsLeft` tells it
-abbrev pub runLeft : State → Work → ℕ → ℕ → ℕ → Event
-runLeft st wk had i k =
+abbrev pub run_left : State → Work → ℕ → ℕ → ℕ → Event
+run_left st wk had i k =
     let x = run_at st k in
     Unfinished (record { core = x.core; task = i; run = number_at wk k }) x.deadline (cond (eqb k 0) had 0) (length_at wk k)

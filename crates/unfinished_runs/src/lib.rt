@@ -1,12 +1,12 @@
 // Writing the unfinished runs at a rehearsal's stop, in a window of its text.
 ghost use Rattle.std.specs.Prelude.{◌≡◌, length, ◌+◌, ◌*◌, ◌≤◌, ◌<◌};
-ghost use Rattle.units.specs.Limits.{runsLimit, tasksLimit, clockLimit};
-ghost use Rattle.writing.specs.Inner.{placeLimit};
-ghost use Rattle.day_lines.specs.Lines.{eventText, eventsText};
+ghost use Rattle.units.specs.Limits.{runs_limit, tasks_limit, clock_limit};
+ghost use Rattle.writing.specs.Inner.{place_limit};
+ghost use Rattle.day_lines.specs.Lines.{event_text, events_text};
 ghost use Rattle.day_window.specs.Window.{Windowed};
-ghost use Rattle.day_rules.specs.Day.{runsLeft};
-ghost use Rattle.unfinished_runs.specs.Inner.{runLeft};
-ghost use Rattle.unfinished_runs.specs.Left.{leftBy, Leavable};
+ghost use Rattle.day_rules.specs.Day.{runs_left};
+ghost use Rattle.unfinished_runs.specs.Inner.{run_left};
+ghost use Rattle.unfinished_runs.specs.Left.{left_by, Leavable};
 
 use day_lines::{Event, Ran};
 use day_window::put_within;
@@ -26,8 +26,8 @@ fn put_run(
     work: Work,
     had: u64,
 ) -> usize
-    requires { (at + 180 ≤ placeLimit) × (k < runsLimit) × (work.ended ≤ clockLimit) }
-    ensures windowed { Windowed out.old skip at (eventText (runLeft state work had task k)) out.new result }
+    requires { (at + 180 ≤ place_limit) × (k < runs_limit) × (work.ended ≤ clock_limit) }
+    ensures windowed { Windowed out.old skip at (event_text (run_left state work had task k)) out.new result }
     ensures upper_bound { result ≤ at + 180 }
 {
     let core = state.cores[k];
@@ -63,9 +63,9 @@ fn put_runs(
     work: Work,
     had: u64,
 ) -> usize
-    requires { (at + 180 * runsLimit ≤ placeLimit) × (state.live ≤ runsLimit) × (work.ended ≤ clockLimit) }
-    ensures windowed { Windowed out.old skip at (eventsText (runsLeft state work had task state.live)) out.new result }
-    ensures upper_bound { result ≤ at + 180 * runsLimit }
+    requires { (at + 180 * runs_limit ≤ place_limit) × (state.live ≤ runs_limit) × (work.ended ≤ clock_limit) }
+    ensures windowed { Windowed out.old skip at (events_text (runs_left state work had task state.live)) out.new result }
+    ensures upper_bound { result ≤ at + 180 * runs_limit }
 {
     let live = state.live as usize;
     let mut end = at;
@@ -86,9 +86,9 @@ pub fn put_unfinished(
     seats: [Seat; TASKS],
     had: &[u64],
 ) -> usize
-    requires { (at + 180 * runsLimit * tasksLimit ≤ placeLimit) × (count ≤ tasksLimit) × Leavable seats count × (length had.now ≡ tasksLimit) }
-    ensures windowed { Windowed out.old skip at (eventsText (leftBy seats had.now count)) out.new result }
-    ensures upper_bound { result ≤ at + 180 * runsLimit * count }
+    requires { (at + 180 * runs_limit * tasks_limit ≤ place_limit) × (count ≤ tasks_limit) × Leavable seats count × (length had.now ≡ tasks_limit) }
+    ensures windowed { Windowed out.old skip at (events_text (left_by seats had.now count)) out.new result }
+    ensures upper_bound { result ≤ at + 180 * runs_limit * count }
 {
     let mut end = at;
     let mut i: usize = 0;

@@ -8,11 +8,11 @@ use Rattle.units.proofs.share.Share.largest.Reads as Largest
 use Rattle.units.proofs.share.Share.smaller.Reads as Smaller
 use Rattle.units.proofs.share.Share.rest.Reads as Rest
 
-pub limits-in-force : Settled LimitsInForce.Post
-limits-in-force κs a x y e f p q = p ∙ sym q
+pub limits_in_force : Settled LimitsInForce.Post
+limits_in_force κs a x y e f p q = p ∙ sym q
 
-pub numbers-in-force : Settled NumbersInForce.Post
-numbers-in-force κs a x y e f p q = p ∙ sym q
+pub numbers_in_force : Settled NumbersInForce.Post
+numbers_in_force κs a x y e f p q = p ∙ sym q
 
 pub largest : Settled Largest.Post
 largest κs a x y e f p q = ap share (p ∙ sym q)

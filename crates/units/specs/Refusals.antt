@@ -12,115 +12,115 @@ abbrev pub taken : Refusal
 taken = refusal 0 0
 
 -- core count 0 or above 16
-abbrev pub coresNo : ℕ
-coresNo = 1
+abbrev pub cores_no : ℕ
+cores_no = 1
 
 -- table empty, over 64 tasks, or ending inside a task
-abbrev pub tableNo : ℕ
-tableNo = 2
+abbrev pub table_no : ℕ
+table_no = 2
 
 -- a task has cost 0, period 0 or period above its limit
-abbrev pub rangeNo : ℕ
-rangeNo = 3
+abbrev pub range_no : ℕ
+range_no = 3
 
 -- a task's cost exceeds its period
-abbrev pub costNo : ℕ
-costNo = 4
+abbrev pub cost_no : ℕ
+cost_no = 4
 
 -- the common period exceeds its limit
-abbrev pub periodNo : ℕ
-periodNo = 5
+abbrev pub period_no : ℕ
+period_no = 5
 
 -- the weights sum to more than M × L
-abbrev pub weightsNo : ℕ
-weightsNo = 6
+abbrev pub weights_no : ℕ
+weights_no = 6
 
 -- task number 0 or above N
-abbrev pub taskNo : ℕ
-taskNo = 7
+abbrev pub task_no : ℕ
+task_no = 7
 
 -- the call's time is below the stored clock
-abbrev pub pastNo : ℕ
-pastNo = 8
+abbrev pub past_no : ℕ
+past_no = 8
 
 -- a release while 8 runs of the task are unfinished
-abbrev pub backlogNo : ℕ
-backlogNo = 10
+abbrev pub backlog_no : ℕ
+backlog_no = 10
 
 -- finish of a task with no unfinished run, or whose oldest one is held
-abbrev pub noRunNo : ℕ
-noRunNo = 11
+abbrev pub no_run_no : ℕ
+no_run_no = 11
 
 -- the call's time, or a release's held time, is above the clock's limit
-abbrev pub clockNo : ℕ
-clockNo = 12
+abbrev pub clock_no : ℕ
+clock_no = 12
 
 -- core number 0 or above M
-abbrev pub coreNo : ℕ
-coreNo = 13
+abbrev pub core_no : ℕ
+core_no = 13
 
 -- the listing is longer than the lent buffer
-abbrev pub bufferNo : ℕ
-bufferNo = 14
+abbrev pub buffer_no : ℕ
+buffer_no = 14
 
 -- a record handed in is unsound
-abbrev pub unsoundNo : ℕ
-unsoundNo = 15
+abbrev pub unsound_no : ℕ
+unsound_no = 15
 
 -- the program's text can't be read
-abbrev pub textNo : ℕ
-textNo = 16
+abbrev pub text_no : ℕ
+text_no = 16
 
 -- a line of an office sheet after its first can't be read, or the sheet is too long
-abbrev pub sheetNo : ℕ
-sheetNo = 17
+abbrev pub sheet_no : ℕ
+sheet_no = 17
 
 -- an office sheet has the same name twice
-abbrev pub nameNo : ℕ
-nameNo = 18
+abbrev pub name_no : ℕ
+name_no = 18
 
 -- an office sheet's first line can't be read, or its tick length is out of range
-abbrev pub tickNo : ℕ
-tickNo = 19
+abbrev pub tick_no : ℕ
+tick_no = 19
 
 -- an arrival can't be read, is beyond 4,096 or is for a task not in the table
-abbrev pub arrivalNo : ℕ
-arrivalNo = 25
+abbrev pub arrival_no : ℕ
+arrival_no = 25
 
 -- an arrival's length is outside 1 to its task's cost
-abbrev pub lengthNo : ℕ
-lengthNo = 26
+abbrev pub length_no : ℕ
+length_no = 26
 
 -- an arrival's time is below the one before
-abbrev pub orderNo : ℕ
-orderNo = 27
+abbrev pub order_no : ℕ
+order_no = 27
 
 -- what an accepted call answers; what was lent for it where the call is refused
-abbrev pub orKept : {A : Type 0} → ℕ → A → A → A
-orKept n answered lent = cond (eqb n 0) answered lent
+abbrev pub or_kept : {A : Type 0} → ℕ → A → A → A
+or_kept n answered lent = cond (eqb n 0) answered lent
 
 -- all of them
-abbrev pub theNumbers : Numbers
-theNumbers = record {
-  cores = coresNo;
-  table = tableNo;
-  range = rangeNo;
-  cost = costNo;
-  period = periodNo;
-  weights = weightsNo;
-  task = taskNo;
-  past = pastNo;
-  backlog = backlogNo;
-  norun = noRunNo;
-  clock = clockNo;
-  core = coreNo;
-  buffer = bufferNo;
-  unsound = unsoundNo;
-  text = textNo;
-  sheet = sheetNo;
-  name = nameNo;
-  tick = tickNo;
-  arrival = arrivalNo;
-  length = lengthNo;
-  order = orderNo;
+abbrev pub the_numbers : Numbers
+the_numbers = record {
+  cores = cores_no;
+  table = table_no;
+  range = range_no;
+  cost = cost_no;
+  period = period_no;
+  weights = weights_no;
+  task = task_no;
+  past = past_no;
+  backlog = backlog_no;
+  norun = no_run_no;
+  clock = clock_no;
+  core = core_no;
+  buffer = buffer_no;
+  unsound = unsound_no;
+  text = text_no;
+  sheet = sheet_no;
+  name = name_no;
+  tick = tick_no;
+  arrival = arrival_no;
+  length = length_no;
+  order = order_no;
 }

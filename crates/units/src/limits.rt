@@ -1,6 +1,6 @@
 // The limits of document 01, "Numbers and units". Each stands here once and once in specs/Limits; `in_force` shows that the two agree.
 ghost use Rattle.std.specs.Prelude.{◌≡◌};
-ghost use Rattle.units.specs.Limits.{theLimits};
+ghost use Rattle.units.specs.Limits.{the_limits};
 
 // Cores M, at most.
 pub const CORES: usize = 16;
@@ -27,7 +27,7 @@ pub struct Limits {
 
 // The limits that the code goes by are those that the definitions go by.
 pub fn in_force() -> Limits
-    ensures { result ≡ theLimits }
+    ensures { result ≡ the_limits }
 {
     Limits {
         cores: CORES,

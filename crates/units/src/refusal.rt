@@ -1,6 +1,6 @@
 // Refusals of document 01, "Refusal numbers", and of document 02. Each number stands here once and once in specs/Refusals; `in_force` shows that the two agree.
 ghost use Rattle.std.specs.Prelude.{◌≡◌};
-ghost use Rattle.units.specs.Refusals.{theNumbers};
+ghost use Rattle.units.specs.Refusals.{the_numbers};
 
 // A refusal's number, and what it names: a task, a line of a text, or an arrival. 0 and 0 for none.
 #[derive(Drop)]
@@ -84,7 +84,7 @@ pub struct Numbers {
 
 // The numbers that the code goes by are those that the definitions go by.
 pub fn in_force() -> Numbers
-    ensures { result ≡ theNumbers }
+    ensures { result ≡ the_numbers }
 {
     Numbers {
         cores: Refusal::CORES,

@@ -1,6 +1,6 @@
 // Units of 1/L core: weights, shares, loads and rooms.
 ghost use Rattle.std.specs.Prelude.{◌≡◌, ◌*◌, ◌-◌, min};
-ghost use Rattle.units.specs.Limits.{coresLimit, commonLimit};
+ghost use Rattle.units.specs.Limits.{cores_limit, common_limit};
 
 use crate::limits::{COMMON, CORES};
 
@@ -16,7 +16,7 @@ impl Share {
     pub const LARGEST: Share = Share(CORES as u32 * COMMON);
 
     pub fn largest() -> Share
-        ensures { result.0 ≡ coresLimit * commonLimit }
+        ensures { result.0 ≡ cores_limit * common_limit }
     {
         Share::LARGEST
     }

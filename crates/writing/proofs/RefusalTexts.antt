@@ -3,30 +3,30 @@ use mathlib.Core.Path.{◌≡◌, refl}
 use mathlib.Core.Bool.{true, false}
 use mathlib.Core.List.{[]}
 use borrow.Author.Tests.{ne_eqb}
-use Rattle.units.specs.Refusals.{textNo}
+use Rattle.units.specs.Refusals.{text_no}
 use Rattle.units.specs.declared.refusal.Refusal.{Refusal}
 use Rattle.writing.specs.Field.{field}
-use Rattle.writing.specs.Refused.{ofArrival, namedText}
+use Rattle.writing.specs.Refused.{of_arrival, named_text}
 
 module _ (r : Refusal) where
   -- the line of an unreadable text
-  pub names-line : r.no ≡ textNo → field " line " r.named ≡ namedText r
-  unfolding namedText
-  names-line e = rw e refl
+  pub names_line : r.no ≡ text_no → field " line " r.named ≡ named_text r
+  unfolding named_text
+  names_line e = rw e refl
 
-  module _ (other : r.no ≡ textNo → ⊥) where
+  module _ (other : r.no ≡ text_no → ⊥) where
     -- nothing
-    pub names-none : r.named ≡ 0 → [] ≡ namedText r
-    unfolding namedText
-    names-none e = rw (ne_eqb r.no textNo other, e) refl
+    pub names_none : r.named ≡ 0 → [] ≡ named_text r
+    unfolding named_text
+    names_none e = rw (ne_eqb r.no text_no other, e) refl
 
     module _ (some : r.named ≡ 0 → ⊥) where
       -- an arrival
-      pub names-arrival : ofArrival r.no ≡ true → field " arrival " r.named ≡ namedText r
-      unfolding namedText
-      names-arrival e = rw (ne_eqb r.no textNo other, ne_eqb r.named 0 some, e) refl
+      pub names_arrival : of_arrival r.no ≡ true → field " arrival " r.named ≡ named_text r
+      unfolding named_text
+      names_arrival e = rw (ne_eqb r.no text_no other, ne_eqb r.named 0 some, e) refl
 
       -- a task
-      pub names-task : ofArrival r.no ≡ false → field " task " r.named ≡ namedText r
-      unfolding namedText
-      names-task e = rw (ne_eqb r.no textNo other, ne_eqb r.named 0 some, e) refl
+      pub names_task : of_arrival r.no ≡ false → field " task " r.named ≡ named_text r
+      unfolding named_text
+      names_task e = rw (ne_eqb r.no text_no other, ne_eqb r.named 0 some, e) refl

@@ -11,17 +11,17 @@ use Rattle.writing.proofs.refused.put_refusal.Reads as PutRefusal
 pub put_byte : SettledLent (λ κs e. e.0.now) PutByte.Post
 put_byte κs a x y e f p q = settled p q
 
-pub put-text : SettledLent (λ κs e. e.0.now) PutText.Post
-put-text κs a x y e f p q = settled p q
+pub put_text_lem : SettledLent (λ κs e. e.0.now) PutText.Post
+put_text_lem κs a x y e f p q = settled p q
 
-pub put-number : SettledLent (λ κs e. e.0.now) PutNumber.Post
-put-number κs a x y e f p q = settled p.0 q.0
+pub put_number_lem : SettledLent (λ κs e. e.0.now) PutNumber.Post
+put_number_lem κs a x y e f p q = settled p.0 q.0
 
-pub put-field : SettledLent (λ κs e. e.0.now) PutField.Post
-put-field κs a x y e f p q = settled p.0 q.0
+pub put_field_lem : SettledLent (λ κs e. e.0.now) PutField.Post
+put_field_lem κs a x y e f p q = settled p.0 q.0
 
-pub put-signed : SettledLent (λ κs e. e.0.now) PutSigned.Post
-put-signed κs a x y e f p q = settled p.0 q.0
+pub put_signed_lem : SettledLent (λ κs e. e.0.now) PutSigned.Post
+put_signed_lem κs a x y e f p q = settled p.0 q.0
 
-pub put-refusal : SettledLent (λ κs e. e.0.now) PutRefusal.Post
-put-refusal κs a x y e f p q = settled p.0 q.0
+pub put_refusal_lem : SettledLent (λ κs e. e.0.now) PutRefusal.Post
+put_refusal_lem κs a x y e f p q = settled p.0 q.0

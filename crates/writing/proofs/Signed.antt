@@ -10,7 +10,7 @@ use borrow.Author.Tests.{ltb-true}
 use mir.Syntax.{w64}
 use mir.Val.{SFits, to_z, of_z}
 use mir.ValLaws.{to_z-of_z}
-use Rattle.writing.specs.Decimal.{decimalOf, signed_of}
+use Rattle.writing.specs.Decimal.{decimal_of, signed_of}
 
 -- a number that went through a word of the machine
 abbrev pub there : ℤ → ℤ
@@ -33,14 +33,14 @@ pub record Up (z : ℤ) : Type 0 where
   pub is : z ≡ pos n
 
 -- a number that fits does so below 0 too
-pub neg-fits : (n : ℕ) → n < 2 ^ 63 → SFits w64 (neg_ℤ (pos n))
-neg-fits zero h = record { sfits = h }
-neg-fits (suc n) h = record { sfits = omega arith }
+pub neg_fits : (n : ℕ) → n < 2 ^ 63 → SFits w64 (neg_ℤ (pos n))
+neg_fits zero h = record { sfits = h }
+neg_fits (suc n) h = record { sfits = omega arith }
 
 -- one more than -(n + 1)
-suc-neg : (n : ℕ) → suc_ℤ (negsuc n) ≡ neg_ℤ (pos n)
-suc-neg zero = refl
-suc-neg (suc n) = refl
+suc_neg : (n : ℕ) → suc_ℤ (negsuc n) ≡ neg_ℤ (pos n)
+suc_neg zero = refl
+suc_neg (suc n) = refl
 
 -- a number that tests below 0
 pub down : (z : ℤ) → SFits w64 z → lt_z (there z) (pos 0) ≡ true → Down z
@@ -50,10 +50,10 @@ down (pos n) f t =
 down (negsuc n) f t =
     let s : n < 2 ^ 63 = f.sfits in
     let up : there (negsuc n) +ℤ pos 1 ≡ neg_ℤ (pos n) =
-    ap (λ (y : ℤ). y +ℤ pos 1) (to_z-of_z w64 (negsuc n) f) ∙ +ℤ_one (negsuc n) ∙ suc-neg n in
+    ap (λ (y : ℤ). y +ℤ pos 1) (to_z-of_z w64 (negsuc n) f) ∙ +ℤ_one (negsuc n) ∙ suc_neg n in
     let over : pos 0 -ℤ there (there (negsuc n) +ℤ pos 1) ≡ pos n =
     ap (λ (y : ℤ). pos 0 -ℤ there y) up
-    ∙ ap (λ (y : ℤ). pos 0 -ℤ y) (to_z-of_z w64 (neg_ℤ (pos n)) (neg-fits n s))
+    ∙ ap (λ (y : ℤ). pos 0 -ℤ y) (to_z-of_z w64 (neg_ℤ (pos n)) (neg_fits n s))
     ∙ +ℤ_idl _
     ∙ neg_ℤ-neg_ℤ (pos n) in
     record {
@@ -74,12 +74,12 @@ upward (negsuc n) f t =
     absurd (omega arith)
 
 -- below 0 the text is a minus sign and the size
-pub signed_below : (z : ℤ) (m : ℕ) → Down z → SFits w64 z → m ≡ nat_abs (there z) → (45 ∷ []) ++ decimalOf m ≡ signed_of z
+pub signed_below : (z : ℤ) (m : ℕ) → Down z → SFits w64 z → m ≡ nat_abs (there z) → (45 ∷ []) ++ decimal_of m ≡ signed_of z
 unfolding signed_of
 signed_below z m d f e =
-    ap (λ (k : ℕ). 45 ∷ decimalOf k) (e ∙ ap nat_abs (to_z-of_z w64 z f ∙ d.is)) ∙ sym (ap signed_of d.is)
+    ap (λ (k : ℕ). 45 ∷ decimal_of k) (e ∙ ap nat_abs (to_z-of_z w64 z f ∙ d.is)) ∙ sym (ap signed_of d.is)
 
 -- and else the size alone
-pub signed_above : (z : ℤ) (m : ℕ) → Up z → SFits w64 z → m ≡ nat_abs (there z) → decimalOf m ≡ signed_of z
+pub signed_above : (z : ℤ) (m : ℕ) → Up z → SFits w64 z → m ≡ nat_abs (there z) → decimal_of m ≡ signed_of z
 unfolding signed_of
-signed_above z m d f e = ap decimalOf (e ∙ ap nat_abs (to_z-of_z w64 z f ∙ d.is)) ∙ sym (ap signed_of d.is)
+signed_above z m d f e = ap decimal_of (e ∙ ap nat_abs (to_z-of_z w64 z f ∙ d.is)) ∙ sym (ap signed_of d.is)

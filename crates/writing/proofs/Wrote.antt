@@ -10,11 +10,11 @@ use lib.Seq.{sets, sets-eq, length-sets, take-suc, take-length}
 use Rattle.writing.specs.Wrote.{Wrote}
 
 -- two runs of stores, the second right after the first, are one
-sets-append : (l : List ℕ) (i : ℕ) (xs ys : List ℕ) → sets (sets l i xs) (i + length xs) ys ≡ sets l i (xs ++ ys)
-sets-append l i [] ys = ap (λ (k : ℕ). sets l k ys) (add-zero i)
-sets-append l i (x ∷ xs) ys =
+sets_append : (l : List ℕ) (i : ℕ) (xs ys : List ℕ) → sets (sets l i xs) (i + length xs) ys ≡ sets l i (xs ++ ys)
+sets_append l i [] ys = ap (λ (k : ℕ). sets l k ys) (add-zero i)
+sets_append l i (x ∷ xs) ys =
     ap (λ (k : ℕ). sets (sets l i (x ∷ xs)) k ys) (add-suc i (length xs) ∙ sym (suc-add i (length xs)))
-    ∙ sets-append _ (suc i) xs ys
+    ∙ sets_append _ (suc i) xs ys
 
 -- nothing was written
 pub none : (l : List ℕ) (i : ℕ) → Wrote l i [] l i
@@ -23,7 +23,7 @@ none l i = record { bytes = refl; end = sym (add-zero i) }
 -- one text after another
 pub then : {a b d : List ℕ} {i j k : ℕ} {xs ys : List ℕ} → Wrote a i xs b j → Wrote b j ys d k → Wrote a i (xs ++ ys) d k
 then {a} {b} {d} {i} {j} {k} {xs} {ys} p q = record {
-  bytes = q.bytes ∙ ap (λ (m : ℕ). sets b m ys) p.end ∙ ap (λ (l : List ℕ). sets l (i + length xs) ys) p.bytes ∙ sets-append a i xs ys;
+  bytes = q.bytes ∙ ap (λ (m : ℕ). sets b m ys) p.end ∙ ap (λ (l : List ℕ). sets l (i + length xs) ys) p.bytes ∙ sets_append a i xs ys;
   end = q.end ∙ ap (λ (m : ℕ). m + length ys) p.end ∙ add_assoc i (length xs) (length ys) ∙ ap (λ (m : ℕ). i + m) (sym (length-append xs ys));
 }
 

@@ -2,12 +2,12 @@
 use Rattle.std.specs.Prelude.{ℕ, List, [], ◌∷◌, ◌++◌}
 use Prim.Native.String.{String}
 use Rattle.writing.specs.Ascii.{ascii, newline}
-use Rattle.writing.specs.Decimal.{decimalOf}
+use Rattle.writing.specs.Decimal.{decimal_of}
 
 -- a label and a number
 abbrev pub field : String → ℕ → List ℕ
-field label n = ascii label ++ decimalOf n
+field label n = ascii label ++ decimal_of n
 
 -- the end of a line
-abbrev pub lineEnd : List ℕ
-lineEnd = newline ∷ []
+abbrev pub line_end : List ℕ
+line_end = newline ∷ []

@@ -2,13 +2,13 @@
 use Rattle.std.specs.Prelude.{ℕ, ◌+◌, ◌/◌, ◌%◌, List, [], ◌∷◌, ◌++◌}
 
 -- no writer is asked to answer a larger index
-abbrev pub placeLimit : ℕ
-placeLimit = 1000000000000000000
+abbrev pub place_limit : ℕ
+place_limit = 1000000000000000000
 
 -- a number below 100 with its leading zero
-abbrev pub twoDigits : ℕ → List ℕ
-twoDigits n = (48 + n / 10) ∷ (48 + n % 10) ∷ []
+abbrev pub two_digits : ℕ → List ℕ
+two_digits n = (48 + n / 10) ∷ (48 + n % 10) ∷ []
 
 -- a number below 10,000 with its leading zeros
-abbrev pub fourDigits : ℕ → List ℕ
-fourDigits n = twoDigits (n / 100) ++ twoDigits (n % 100)
+abbrev pub four_digits : ℕ → List ℕ
+four_digits n = two_digits (n / 100) ++ two_digits (n % 100)

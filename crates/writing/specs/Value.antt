@@ -2,18 +2,18 @@
 use Rattle.std.specs.Prelude.{ℕ, ◌+◌, ◌*◌, ◌-◌, ◌≤◌, ◌<◌, cond, List, [], ◌∷◌, eqb, ℤ, pos, neg_ℤ}
 
 -- the number that v and the digits after it make
-abbrev pub valueFrom : ℕ → List ℕ → ℕ
-valueFrom v [] = v
-valueFrom v (b ∷ s) = valueFrom (v * 10 + (b - 48)) s
+abbrev pub value_from : ℕ → List ℕ → ℕ
+value_from v [] = v
+value_from v (b ∷ s) = value_from (v * 10 + (b - 48)) s
 
 -- the number that digits make
 abbrev pub value_of : List ℕ → ℕ
-value_of s = valueFrom 0 s
+value_of s = value_from 0 s
 
 -- the same, below 0 after a minus sign
-abbrev pub signedValueOf : List ℕ → ℤ
-signedValueOf [] = pos 0
-signedValueOf (b ∷ s) = cond (eqb b 45) (neg_ℤ (pos (value_of s))) (pos (value_of (b ∷ s)))
+abbrev pub signed_value_of : List ℕ → ℤ
+signed_value_of [] = pos 0
+signed_value_of (b ∷ s) = cond (eqb b 45) (neg_ℤ (pos (value_of s))) (pos (value_of (b ∷ s)))
 
 -- digits alone
 pub data Digits : List ℕ → Type 0 where

@@ -1,14 +1,14 @@
 // Numbers of up to eight digits, two digits at a time, where there is room.
 ghost use Rattle.std.specs.Prelude.{◌+◌, ◌≤◌, ◌<◌, length};
-ghost use Rattle.writing.specs.Inner.{twoDigits, fourDigits};
-ghost use Rattle.writing.specs.Decimal.{decimalOf};
+ghost use Rattle.writing.specs.Inner.{two_digits, four_digits};
+ghost use Rattle.writing.specs.Decimal.{decimal_of};
 ghost use Rattle.writing.specs.Wrote.{Wrote};
 
 // Both digits of a number below 100.
 fn put_two(buf: &mut [u8], at: usize, n: u32) -> usize
     requires n_bound { n < 100 }
     requires at_in_bounds { at + 2 ≤ length buf.old }
-    ensures { Wrote buf.old at (twoDigits n) buf.new result }
+    ensures { Wrote buf.old at (two_digits n) buf.new result }
 {
     let tens = 48 + (n / 10) as u8;
     let ones = 48 + (n % 10) as u8;
@@ -21,7 +21,7 @@ fn put_two(buf: &mut [u8], at: usize, n: u32) -> usize
 fn put_one_or_two(buf: &mut [u8], at: usize, n: u32) -> usize
     requires n_bound { n < 100 }
     requires at_in_bounds { at + 2 ≤ length buf.old }
-    ensures wrote { Wrote buf.old at (decimalOf n) buf.new result }
+    ensures wrote { Wrote buf.old at (decimal_of n) buf.new result }
     ensures upper_bound { result ≤ at + 2 }
 {
     if n < 10 {
@@ -36,7 +36,7 @@ fn put_one_or_two(buf: &mut [u8], at: usize, n: u32) -> usize
 fn put_four(buf: &mut [u8], at: usize, n: u32) -> usize
     requires n_bound { n < 10000 }
     requires at_in_bounds { at + 4 ≤ length buf.old }
-    ensures { Wrote buf.old at (fourDigits n) buf.new result }
+    ensures { Wrote buf.old at (four_digits n) buf.new result }
 {
     let next = put_two(buf, at, n / 100);
     put_two(buf, next, n % 100)
@@ -46,7 +46,7 @@ fn put_four(buf: &mut [u8], at: usize, n: u32) -> usize
 fn put_few(buf: &mut [u8], at: usize, n: u32) -> usize
     requires n_bound { n < 10000 }
     requires at_in_bounds { at + 4 ≤ length buf.old }
-    ensures wrote { Wrote buf.old at (decimalOf n) buf.new result }
+    ensures wrote { Wrote buf.old at (decimal_of n) buf.new result }
     ensures upper_bound { result ≤ at + 4 }
 {
     if n < 100 {
@@ -60,7 +60,7 @@ fn put_few(buf: &mut [u8], at: usize, n: u32) -> usize
 pub(crate) fn put_short(buf: &mut [u8], at: usize, n: u32) -> usize
     requires n_bound { n < 100000000 }
     requires at_in_bounds { at + 8 ≤ length buf.old }
-    ensures wrote { Wrote buf.old at (decimalOf n) buf.new result }
+    ensures wrote { Wrote buf.old at (decimal_of n) buf.new result }
     ensures upper_bound { result ≤ at + 8 }
 {
     if n < 10_000 {

@@ -1,7 +1,7 @@
 // Writers of text into a lent buffer. Each stores as much as fits and answers the index after its text.
 ghost use Rattle.std.specs.Prelude.{◌≡◌, [], ◌∷◌, ◌++◌, ◌+◌, ◌≤◌, length, nat_abs};
-ghost use Rattle.writing.specs.Inner.{placeLimit};
-ghost use Rattle.writing.specs.Decimal.{decimalOf, signed_of};
+ghost use Rattle.writing.specs.Inner.{place_limit};
+ghost use Rattle.writing.specs.Decimal.{decimal_of, signed_of};
 ghost use Rattle.writing.specs.Wrote.{Wrote};
 
 use crate::digits::put_short;
@@ -16,7 +16,7 @@ pub const NEWLINE: u8 = 10;
 
 // One byte.
 pub fn put_byte(buf: &mut [u8], at: usize, b: u8) -> usize
-    requires { at + 1 ≤ placeLimit }
+    requires { at + 1 ≤ place_limit }
     ensures { Wrote buf.old at (b ∷ []) buf.new result }
 {
     let next = at + 1;
@@ -44,7 +44,7 @@ fn put_whole(buf: &mut [u8], at: usize, text: &[u8]) -> usize
 
 // A text.
 pub fn put_text(buf: &mut [u8], at: usize, text: &[u8]) -> usize
-    requires { at + length text.now ≤ placeLimit }
+    requires { at + length text.now ≤ place_limit }
     ensures { Wrote buf.old at text.now buf.new result }
 {
     if at + text.len() <= buf.len() {
@@ -62,8 +62,8 @@ pub fn put_text(buf: &mut [u8], at: usize, text: &[u8]) -> usize
 
 // A number in decimal, cut where the buffer ends.
 fn put_cut(buf: &mut [u8], at: usize, n: u64) -> usize
-    requires { at + 20 ≤ placeLimit }
-    ensures wrote { Wrote buf.old at (decimalOf n) buf.new result }
+    requires { at + 20 ≤ place_limit }
+    ensures wrote { Wrote buf.old at (decimal_of n) buf.new result }
     ensures upper_bound { result ≤ at + 20 }
 {
     if n < 10 {
@@ -76,8 +76,8 @@ fn put_cut(buf: &mut [u8], at: usize, n: u64) -> usize
 
 // A number in decimal: two digits at a time where eight have room, digit by digit else.
 pub fn put_number(buf: &mut [u8], at: usize, n: u64) -> usize
-    requires { at + 20 ≤ placeLimit }
-    ensures wrote { Wrote buf.old at (decimalOf n) buf.new result }
+    requires { at + 20 ≤ place_limit }
+    ensures wrote { Wrote buf.old at (decimal_of n) buf.new result }
     ensures upper_bound { result ≤ at + 20 }
 {
     if (n < 100_000_000) & (at + 8 <= buf.len()) {
@@ -88,8 +88,8 @@ pub fn put_number(buf: &mut [u8], at: usize, n: u64) -> usize
 
 // A label and a number after it.
 pub fn put_field(buf: &mut [u8], at: usize, label: &[u8], n: u64) -> usize
-    requires { at + length label.now + 20 ≤ placeLimit }
-    ensures wrote { Wrote buf.old at (label.now ++ decimalOf n) buf.new result }
+    requires { at + length label.now + 20 ≤ place_limit }
+    ensures wrote { Wrote buf.old at (label.now ++ decimal_of n) buf.new result }
     ensures upper_bound { result ≤ at + length label.now + 20 }
 {
     let next = put_text(buf, at, label);
@@ -109,7 +109,7 @@ fn size(z: i64) -> u64
 
 // A signed number in decimal.
 pub fn put_signed(buf: &mut [u8], at: usize, z: i64) -> usize
-    requires { at + 21 ≤ placeLimit }
+    requires { at + 21 ≤ place_limit }
     ensures wrote { Wrote buf.old at (signed_of z) buf.new result }
     ensures upper_bound { result ≤ at + 21 }
 {

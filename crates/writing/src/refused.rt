@@ -1,16 +1,16 @@
 // A refusal's line.
 ghost use Rattle.std.specs.Prelude.{◌+◌, ◌≤◌};
-ghost use Rattle.writing.specs.Inner.{placeLimit};
+ghost use Rattle.writing.specs.Inner.{place_limit};
 ghost use Rattle.writing.specs.Wrote.{Wrote};
-ghost use Rattle.writing.specs.Refused.{namedText, refusalText};
+ghost use Rattle.writing.specs.Refused.{named_text, refusal_text};
 
 use crate::{NEWLINE, put_byte, put_field};
 use units::refusal::Refusal;
 
 // What a refusal names: the line of an unreadable text, else an arrival or a task where there is one.
 fn put_named(buf: &mut [u8], at: usize, refusal: Refusal) -> usize
-    requires { at + 29 ≤ placeLimit }
-    ensures wrote { Wrote buf.old at (namedText refusal) buf.new result }
+    requires { at + 29 ≤ place_limit }
+    ensures wrote { Wrote buf.old at (named_text refusal) buf.new result }
     ensures upper_bound { result ≤ at + 29 }
 {
     if refusal.no == Refusal::TEXT {
@@ -28,8 +28,8 @@ fn put_named(buf: &mut [u8], at: usize, refusal: Refusal) -> usize
 
 // The line, for every program.
 pub fn put_refusal(buf: &mut [u8], at: usize, refusal: Refusal) -> usize
-    requires { at + 60 ≤ placeLimit }
-    ensures wrote { Wrote buf.old at (refusalText refusal) buf.new result }
+    requires { at + 60 ≤ place_limit }
+    ensures wrote { Wrote buf.old at (refusal_text refusal) buf.new result }
     ensures upper_bound { result ≤ at + 60 }
 {
     let a = put_field(buf, at, b"refused ", refusal.no as u64);

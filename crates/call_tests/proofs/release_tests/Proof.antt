@@ -9,5 +9,5 @@ first-of-requires c κs = search rules
 returns : tie.Need-returns
 returns c = c.first_of.ensures
 
-pub release-tests-spec : {M : Type 1} → statement M
-release-tests-spec = tie.close (tie.spec first-of-requires returns)
+pub release_tests_spec : {M : Type 1} → statement M
+release_tests_spec = tie.close (tie.spec first-of-requires returns)

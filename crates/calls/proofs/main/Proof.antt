@@ -4,73 +4,73 @@ use borrow.Author.Rules.{rules}
 use Rattle.calls.proofs.main.Statement.{statement}
 use Rattle.calls.proofs.main.Tie as tie
 
-slice-aggregate-read-input : tie.Need-slice-aggregate-read-input
-slice-aggregate-read-input c = search rules
+slice_aggregate_read_input : tie.Need-slice-aggregate-read-input
+slice_aggregate_read_input c = search rules
 
-read-input-requires : tie.Need-read-input-requires
-read-input-requires c κs = search rules
+read_input_requires : tie.Need-read-input-requires
+read_input_requires c κs = search rules
 
 enum_told : tie.Need-enum-told
 enum_told c = search rules
 
-enum-known-n : tie.Need-enum-known-n
-enum-known-n c = search rules
+enum_known_n : tie.Need-enum-known-n
+enum_known_n c = search rules
 
-room-requires : tie.Need-room-requires
-room-requires c κs = search rules
+room_requires : tie.Need-room-requires
+room_requires c κs = search rules
 
-sub-play : tie.Need-overflow-sub-play
-sub-play c = search rules
+sub_play : tie.Need-overflow-sub-play
+sub_play c = search rules
 
-part-play-start : tie.Need-slice-bounds-play-start
-part-play-start c = search rules
+part_play_start : tie.Need-slice-bounds-play-start
+part_play_start c = search rules
 
-part-play-end : tie.Need-slice-bounds-play-end
-part-play-end c =
+part_play_end : tie.Need-slice-bounds-play-end
+part_play_end c =
     let k = c.before.before.before in
     within _ _ k.n.given.1 k.before.before.before.read-input.ensures
 
-slice-aggregate-play : tie.Need-slice-aggregate-play
-slice-aggregate-play c = search rules
+slice_aggregate_play : tie.Need-slice-aggregate-play
+slice_aggregate_play c = search rules
 
-play-requires : tie.Need-play-requires
-play-requires c κs = search rules
+play_requires : tie.Need-play-requires
+play_requires c κs = search rules
 
-sub-write-output : tie.Need-overflow-sub-write-output
-sub-write-output c = search rules
+sub_write_output : tie.Need-overflow-sub-write-output
+sub_write_output c = search rules
 
-part-write-output-start : tie.Need-slice-bounds-write-output-start
-part-write-output-start c = search rules
+part_write_output_start : tie.Need-slice-bounds-write-output-start
+part_write_output_start c = search rules
 
-part-write-output-end : tie.Need-slice-bounds-write-output-end
-part-write-output-end c = search rules
+part_write_output_end : tie.Need-slice-bounds-write-output-end
+part_write_output_end c = search rules
 
-write-output-requires : tie.Need-write-output-requires
-write-output-requires c κs = search rules
+write_output_requires : tie.Need-write-output-requires
+write_output_requires c κs = search rules
 
 returns : tie.Need-returns
 returns c = search rules
 
-returns-2 : tie.Need-returns-2
-returns-2 c = search rules
+returns_2 : tie.Need-returns-2
+returns_2 c = search rules
 
 pub main_spec : {M : Type 1} → statement M
 main_spec =
     tie.close
     (tie.spec
-    slice-aggregate-read-input
-    read-input-requires
+    slice_aggregate_read_input
+    read_input_requires
     enum_told
-    enum-known-n
-    room-requires
-    sub-play
-    part-play-start
-    part-play-end
-    slice-aggregate-play
-    play-requires
-    sub-write-output
-    part-write-output-start
-    part-write-output-end
-    write-output-requires
+    enum_known_n
+    room_requires
+    sub_play
+    part_play_start
+    part_play_end
+    slice_aggregate_play
+    play_requires
+    sub_write_output
+    part_write_output_start
+    part_write_output_end
+    write_output_requires
     returns
-    returns-2)
+    returns_2)

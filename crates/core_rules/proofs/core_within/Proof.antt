@@ -6,5 +6,5 @@ use Rattle.core_rules.proofs.core_within.Tie as tie
 returns : tie.Need-returns
 returns c = refl
 
-pub core-within-spec : {M : Type 1} → statement M
-core-within-spec = tie.close (tie.spec returns)
+pub core_within_spec : {M : Type 1} → statement M
+core_within_spec = tie.close (tie.spec returns)

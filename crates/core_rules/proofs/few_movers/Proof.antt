@@ -6,5 +6,5 @@ use Rattle.core_rules.proofs.few_movers.Tie as tie
 returns : tie.Need-returns
 returns c = refl
 
-pub few-movers-spec : {M : Type 1} → statement M
-few-movers-spec = tie.close (tie.spec returns)
+pub few_movers_spec : {M : Type 1} → statement M
+few_movers_spec = tie.close (tie.spec returns)

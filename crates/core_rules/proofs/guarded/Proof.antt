@@ -6,5 +6,5 @@ use Rattle.core_rules.proofs.guarded.Tie as tie
 returns : tie.Need-returns
 returns c = refl
 
-pub guarded-spec : {M : Type 1} → statement M
-guarded-spec = tie.close (tie.spec returns)
+pub guarded_spec : {M : Type 1} → statement M
+guarded_spec = tie.close (tie.spec returns)

@@ -6,5 +6,5 @@ use Rattle.core_rules.proofs.one_first.Tie as tie
 returns : tie.Need-returns
 returns c = refl
 
-pub one-first-spec : {M : Type 1} → statement M
-one-first-spec = tie.close (tie.spec returns)
+pub one_first_spec : {M : Type 1} → statement M
+one_first_spec = tie.close (tie.spec returns)

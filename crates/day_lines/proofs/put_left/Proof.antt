@@ -4,29 +4,29 @@ use borrow.Author.Rules.{rules}
 use Rattle.day_lines.proofs.put_left.Statement.{statement}
 use Rattle.day_lines.proofs.put_left.Tie as tie
 
-slice-aggregate-put-field : tie.Need-slice-aggregate-put-field
-slice-aggregate-put-field c = search rules
+slice_aggregate_put_field : tie.Need-slice-aggregate-put-field
+slice_aggregate_put_field c = search rules
 
-put-field-requires : tie.Need-put-field-requires
-put-field-requires c κs = search rules
+put_field_requires : tie.Need-put-field-requires
+put_field_requires c κs = search rules
 
-slice-aggregate-put-field-2 : tie.Need-slice-aggregate-put-field-2
-slice-aggregate-put-field-2 c = search rules
+slice_aggregate_put_field_2 : tie.Need-slice-aggregate-put-field-2
+slice_aggregate_put_field_2 c = search rules
 
-put-field-requires-2 : tie.Need-put-field-requires-2
-put-field-requires-2 c κs = search rules
+put_field_requires_2 : tie.Need-put-field-requires-2
+put_field_requires_2 c κs = search rules
 
-slice-aggregate-put-field-3 : tie.Need-slice-aggregate-put-field-3
-slice-aggregate-put-field-3 c = search rules
+slice_aggregate_put_field_3 : tie.Need-slice-aggregate-put-field-3
+slice_aggregate_put_field_3 c = search rules
 
-put-field-requires-3 : tie.Need-put-field-requires-3
-put-field-requires-3 c κs = search rules
+put_field_requires_3 : tie.Need-put-field-requires-3
+put_field_requires_3 c κs = search rules
 
-slice-aggregate-put-field-4 : tie.Need-slice-aggregate-put-field-4
-slice-aggregate-put-field-4 c = search rules
+slice_aggregate_put_field_4 : tie.Need-slice-aggregate-put-field-4
+slice_aggregate_put_field_4 c = search rules
 
-put-field-requires-4 : tie.Need-put-field-requires-4
-put-field-requires-4 c κs = search rules
+put_field_requires_4 : tie.Need-put-field-requires-4
+put_field_requires_4 c κs = search rules
 
 same_length : tie.Need-same-length
 same_length c = search rules
@@ -37,20 +37,20 @@ returns c =
     let p3 = p4.before.before.before.before.before in
     let p2 = p3.before.before.before.before.before in
     let p1 = p2.before.before.before.before.before in
-    let w = then (then p1.put-field.ensures.0 p2.put-field2.ensures.0) p3.put-field3.ensures.0 in
+    let w = then (then p1.put_field_lem.ensures.0 p2.put-field2.ensures.0) p3.put-field3.ensures.0 in
     (then w p4.put-field4.ensures.0, search rules)
 
-pub put-left-spec : {M : Type 1} → statement M
-put-left-spec =
+pub put_left_spec : {M : Type 1} → statement M
+put_left_spec =
     tie.close
     (tie.spec
-    slice-aggregate-put-field
-    put-field-requires
-    slice-aggregate-put-field-2
-    put-field-requires-2
-    slice-aggregate-put-field-3
-    put-field-requires-3
-    slice-aggregate-put-field-4
-    put-field-requires-4
+    slice_aggregate_put_field
+    put_field_requires
+    slice_aggregate_put_field_2
+    put_field_requires_2
+    slice_aggregate_put_field_3
+    put_field_requires_3
+    slice_aggregate_put_field_4
+    put_field_requires_4
     same_length
     returns)

@@ -4,20 +4,20 @@ use borrow.Author.Rules.{rules}
 use Rattle.day_lines.proofs.put_ran.Statement.{statement}
 use Rattle.day_lines.proofs.put_ran.Tie as tie
 
-put-field-requires : tie.Need-put-field-requires
-put-field-requires c κs = search rules
+put_field_requires : tie.Need-put-field-requires
+put_field_requires c κs = search rules
 
-slice-aggregate-put-field : tie.Need-slice-aggregate-put-field
-slice-aggregate-put-field c = search rules
+slice_aggregate_put_field : tie.Need-slice-aggregate-put-field
+slice_aggregate_put_field c = search rules
 
-put-field-requires-2 : tie.Need-put-field-requires-2
-put-field-requires-2 c κs = search rules
+put_field_requires_2 : tie.Need-put-field-requires-2
+put_field_requires_2 c κs = search rules
 
-slice-aggregate-put-field-2 : tie.Need-slice-aggregate-put-field-2
-slice-aggregate-put-field-2 c = search rules
+slice_aggregate_put_field_2 : tie.Need-slice-aggregate-put-field-2
+slice_aggregate_put_field_2 c = search rules
 
-put-field-requires-3 : tie.Need-put-field-requires-3
-put-field-requires-3 c κs = search rules
+put_field_requires_3 : tie.Need-put-field-requires-3
+put_field_requires_3 c κs = search rules
 
 same_length : tie.Need-same-length
 same_length c = search rules
@@ -27,16 +27,16 @@ returns c =
     let p3 = c.before.before in
     let p2 = p3.before.before.before.before.before in
     let p1 = p2.before.before.before.before.before in
-    (then (then p1.put-field.ensures.0 p2.put-field2.ensures.0) p3.put-field3.ensures.0, search rules)
+    (then (then p1.put_field_lem.ensures.0 p2.put-field2.ensures.0) p3.put-field3.ensures.0, search rules)
 
-pub put-ran-spec : {M : Type 1} → statement M
-put-ran-spec =
+pub put_ran_spec : {M : Type 1} → statement M
+put_ran_spec =
     tie.close
     (tie.spec
-    put-field-requires
-    slice-aggregate-put-field
-    put-field-requires-2
-    slice-aggregate-put-field-2
-    put-field-requires-3
+    put_field_requires
+    slice_aggregate_put_field
+    put_field_requires_2
+    slice_aggregate_put_field_2
+    put_field_requires_3
     same_length
     returns)

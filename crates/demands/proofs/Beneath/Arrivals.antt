@@ -8,7 +8,7 @@ use borrow.Author.Tests.{ltb-true, lt-ltb, leb-true, le-leb, eqb-true, eq-eqb}
 use Rattle.lists.proofs.Tests.{or_left, or_right, or_cases}
 use Rattle.call_tests.specs.Tests.{outside}
 use Rattle.dispatch.specs.Given.{◌if◌else◌, here, past, none, Out}
-use Rattle.arrivals.specs.Arrivals.{testsOf}
+use Rattle.arrivals.specs.Arrivals.{tests_of}
 
 -- one row more before those of a number, by a test that says its case
 row : {Case : Type 0} {Later : ℕ → Type 0} {later : ℕ} (b : Bool) (k : ℕ) → (b ≡ true) ↔ Case → ((n : ℕ) → (later ≡ n) ↔ Later n)
@@ -32,12 +32,12 @@ either a b p q = (
 )
 
 -- a number is out of its range
-out-if : (n i : ℕ) → (outside n i ≡ true) ↔ Out n i
-out-if n i = either (eqb i 0) (ltb n i) (eqb-true i 0, eq-eqb i 0) (ltb-true n i, lt-ltb n i)
+out_if : (n i : ℕ) → (outside n i ≡ true) ↔ Out n i
+out_if n i = either (eqb i 0) (ltb n i) (eqb-true i 0, eq-eqb i 0) (ltb-true n i, lt-ltb n i)
 
-pub rows : (k count task cost len before time n : ℕ) → (testsOf k count task cost len before time ≡ n)
+pub rows : (k count task cost len before time n : ℕ) → (tests_of k count task cost len before time ≡ n)
     ↔ (25 if (4096 ≤ k) ⊎ Out count task else 26 if Out cost len else 27 if time < before else none) n
 rows k count task cost len before time =
-    row (leb 4096 k || outside count task) 25 (either (leb 4096 k) (outside count task) (leb-true 4096 k, le-leb 4096 k) (out-if count task))
-    (row (outside cost len) 26 (out-if cost len)
+    row (leb 4096 k || outside count task) 25 (either (leb 4096 k) (outside count task) (leb-true 4096 k, le-leb 4096 k) (out_if count task))
+    (row (outside cost len) 26 (out_if cost len)
     (row (ltb time before) 27 (ltb-true time before, lt-ltb time before) (λ n. (sym, sym))))

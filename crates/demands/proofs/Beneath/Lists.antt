@@ -12,41 +12,41 @@ use Rattle.lists.specs.Lists.{bit}
 use Rattle.lists.proofs.Tests.{by_cases}
 use Rattle.units.specs.Refusals.{refusal}
 use Rattle.units.specs.declared.refusal.Refusal.{Refusal}
-use Rattle.admission.specs.Admission.{planRefusal}
+use Rattle.admission.specs.Admission.{plan_refusal}
 use Rattle.admission.specs.Given.{Taken}
-use Rattle.admission.proofs.Exactly.{exactly-taken}
+use Rattle.admission.proofs.Exactly.{exactly_taken}
 use Rattle.planning.specs.declared.Plan.{Plan}
 use Rattle.listing.specs.declared.listed.Listed.{Listed}
-use Rattle.listing.specs.Listing.{listingText}
-use Rattle.listing.specs.Listed.{unlisted, listedWhole, planListed, planAfter}
+use Rattle.listing.specs.Listing.{listing_text}
+use Rattle.listing.specs.Listed.{unlisted, listed_whole, plan_listed, plan_after}
 
 -- none of 1 to 6 applies, as planning tests it
-pub is-taken : (m : ℕ) (xs : List ℕ) → (eqb (planRefusal m xs).no 0 ≡ true) ↔ Taken m xs
-is-taken m xs = (
-  λ e. (exactly-taken m xs).0 (eqb-true (planRefusal m xs).no 0 e),
-  λ t. eq-eqb (planRefusal m xs).no 0 ((exactly-taken m xs).1 t),
+pub is_taken : (m : ℕ) (xs : List ℕ) → (eqb (plan_refusal m xs).no 0 ≡ true) ↔ Taken m xs
+is_taken m xs = (
+  λ e. (exactly_taken m xs).0 (eqb-true (plan_refusal m xs).no 0 e),
+  λ t. eq-eqb (plan_refusal m xs).no 0 ((exactly_taken m xs).1 t),
 )
 
 -- the test passed or not, the refusal where it did not, the plan to be listed and the buffer
 module _ (b : Bool) (a : Refusal) (pl : Plan) (buf : List ℕ) where
   -- the listing, what is answered, and the buffer after it
   abbrev text : List ℕ
-  text = listingText pl
+  text = listing_text pl
 
   abbrev answer : Listed
-  answer = cond b (planListed pl (length buf)) (unlisted a)
+  answer = cond b (plan_listed pl (length buf)) (unlisted a)
 
   abbrev after : List ℕ
-  after = cond b (planAfter pl buf) buf
+  after = cond b (plan_after pl buf) buf
 
   -- the three cases
   pub data Case : Type 0 where
     earlier : b ≡ false → answer ≡ unlisted a → after ≡ buf → Case
     short : b ≡ true → length buf < length text → answer ≡ unlisted (refusal 14 0) → after ≡ buf → Case
-    whole : b ≡ true → length text ≤ length buf → answer ≡ listedWhole (length text) → after ≡ text ++ drop (length text) buf → Case
+    whole : b ≡ true → length text ≤ length buf → answer ≡ listed_whole (length text) → after ≡ text ++ drop (length text) buf → Case
 
   pub case : Case
-  unfolding planListed planAfter
+  unfolding plan_listed plan_after
   case =
       by_cases b
       (λ e. by_cases (leb (length text) (length buf))
@@ -77,8 +77,8 @@ module _ (b : Bool) (a : Refusal) (pl : Plan) (buf : List ℕ) where
       back (whole f k x y) h = both h.0 f
 
   -- then 14, where the listing is longer than the buffer
-  pub then-14 : (b ≡ false → a.no ≡ 14 → ⊥) → (answer.refusal ≡ refusal 14 0) ↔ ((b ≡ true) × (length buf < length text))
-  then-14 other = (to case, back case)
+  pub then_14 : (b ≡ false → a.no ≡ 14 → ⊥) → (answer.refusal ≡ refusal 14 0) ↔ ((b ≡ true) × (length buf < length text))
+  then_14 other = (to case, back case)
     where
       to : Case → answer.refusal ≡ refusal 14 0 → (b ≡ true) × (length buf < length text)
       to (earlier f x y) e = absurd (other f (number x e))

@@ -7,67 +7,67 @@ use native.Mathlib.Omega.{arith}
 use lib.Dec.{ltb, eqb}
 use lib.ListN.{length, get_or, get_or-eq_default}
 use borrow.Author.Tests.{ltb-true, ltb-false, eqb-true, eqb-false, eq-eqb}
-use Rattle.units.specs.Limits.{coresLimit, tasksLimit, runsLimit}
+use Rattle.units.specs.Limits.{cores_limit, tasks_limit, runs_limit}
 use Rattle.units.specs.Units.{ticks}
 use Rattle.units.specs.declared.ticks.Ticks.{Ticks}
-use Rattle.units.proofs.Units.{nums-long}
+use Rattle.units.proofs.Units.{nums_long}
 use Rattle.lists.specs.Lists.{total}
-use Rattle.lists.proofs.Tests.{by_cases, and_left, and_right, and-true, or_left, or_right}
-use Rattle.lists.proofs.Lists.{getD-le-sum}
-use Rattle.lists.proofs.Below.{all-at, all_from}
+use Rattle.lists.proofs.Tests.{by_cases, and_left, and_right, and_true, or_left, or_right}
+use Rattle.lists.proofs.Lists.{get_or_le_sum}
+use Rattle.lists.proofs.Below.{all_at, all_from}
 use Rattle.planning.specs.Plan.{row_of}
 use Rattle.stored_runs.specs.declared.Run.{Run}
 use Rattle.task_state.specs.declared.State.{State}
 use Rattle.task_state.specs.State.{run_at}
 use Rattle.task_state.specs.Shape.{Shaped as StateShaped}
-use Rattle.stored_runs.specs.Run.{runEmpty}
-use Rattle.state_rules.specs.Sound.{runRule, runsEmpty, stateEmpty}
-use Rattle.state_rules.proofs.RunFacts.{from-run-facts}
-use Rattle.state_rules.proofs.Facts.{from-facts}
+use Rattle.stored_runs.specs.Run.{run_empty}
+use Rattle.state_rules.specs.Sound.{run_rule, runs_empty, state_empty}
+use Rattle.state_rules.proofs.RunFacts.{from_run_facts}
+use Rattle.state_rules.proofs.Facts.{from_facts}
 use Rattle.dispatch.specs.declared.Record.{Record}
-use Rattle.dispatch.specs.Record.{line_at, stateAt}
+use Rattle.dispatch.specs.Record.{line_at, state_at}
 use Rattle.dispatch.specs.Shape.{Shaped}
-use Rattle.dispatch.specs.Sound.{stateOk}
+use Rattle.dispatch.specs.Sound.{state_ok}
 use Rattle.demands.specs.Sound.{NoRun, NoState, Sound}
-use Rattle.demands.proofs.Beneath.PlanSound.{none-sum}
+use Rattle.demands.proofs.Beneath.PlanSound.{none_sum}
 
 -- the numbers of an empty run are 0
-no_run : (x : Run) → runEmpty x ≡ true → NoRun x
+no_run : (x : Run) → run_empty x ≡ true → NoRun x
 no_run x e =
     let a = eqb x.core 0 in
     let b = eqb x.deadline.0 0 in
     (eqb-true x.core 0 (and_left a b e), eqb-true x.deadline.0 0 (and_right a b e))
 
 -- and a run of such numbers is empty
-empty-run : (x : Run) → NoRun x → runEmpty x ≡ true
-empty-run x n = and-true (eqb x.core 0) (eqb x.deadline.0 0) (eq-eqb x.core 0 n.0) (eq-eqb x.deadline.0 0 n.1)
+empty_run : (x : Run) → NoRun x → run_empty x ≡ true
+empty_run x n = and_true (eqb x.core 0) (eqb x.deadline.0 0) (eq-eqb x.core 0 n.0) (eq-eqb x.deadline.0 0 n.1)
 
 -- from the n-th run on all are empty, if those of the eight are: there are no others
-pub every-run : (st : State) → StateShaped st → (n : ℕ) → ((k : ℕ) → n ≤ k → k < runsLimit → runEmpty (run_at st k) ≡ true)
+pub every_run : (st : State) → StateShaped st → (n : ℕ) → ((k : ℕ) → n ≤ k → k < runs_limit → run_empty (run_at st k) ≡ true)
     → (k : ℕ) → n ≤ k → NoRun (run_at st k)
-every-run st long n e k h =
-    by_cases (ltb k runsLimit)
-    (λ t. no_run (run_at st k) (e k h (ltb-true k runsLimit t)))
+every_run st long n e k h =
+    by_cases (ltb k runs_limit)
+    (λ t. no_run (run_at st k) (e k h (ltb-true k runs_limit t)))
     (λ t.
-    let m = ltb-false k runsLimit t in (
+    let m = ltb-false k runs_limit t in (
       get_or-eq_default st.cores 0 {n = k} (omega (arith, long.cores)),
       ap (λ (d : Ticks). d.0) (get_or-eq_default st.deadlines (ticks 0) {n = k} (omega (arith, long.deadlines))),
     ))
 
 -- the numbers of a state that is empty are 0
-pub empty-state : (st : State) → StateShaped st → stateEmpty st ≡ true → NoState st
-empty-state st long e =
+pub empty_state : (st : State) → StateShaped st → state_empty st ≡ true → NoState st
+empty_state st long e =
     let a = eqb (total st.counts) 0 in
     let b = eqb st.place 0 in
     let c = eqb st.last.0 0 in
     let d = eqb st.had 0 in
     let f = eqb st.live 0 in
-    let e₅ = and_left (a && b && c && d && f) (runsEmpty st) e in
+    let e₅ = and_left (a && b && c && d && f) (runs_empty st) e in
     let e₄ = and_left (a && b && c && d) f e₅ in
     let e₃ = and_left (a && b && c) d e₄ in
     let e₂ = and_left (a && b) c e₃ in
     let none = eqb-true (total st.counts) 0 (and_left a b e₂) in
-    let all = and_right (a && b && c && d && f) (runsEmpty st) e in
+    let all = and_right (a && b && c && d && f) (runs_empty st) e in
     record {
       numbers = (
         eqb-true st.last.0 0 (and_right (a && b) c e₃),
@@ -75,20 +75,20 @@ empty-state st long e =
         eqb-true st.live 0 (and_right (a && b && c && d) f e₅),
         eqb-true st.had 0 (and_right (a && b && c) d e₄),
       );
-      counts = λ p. omega (arith, none, getD-le-sum st.counts p);
-      runs = λ k. every-run st long 0 (λ j h l. all-at runsLimit j (λ i. runEmpty (run_at st i)) l all) k (omega arith);
+      counts = λ p. omega (arith, none, get_or_le_sum st.counts p);
+      runs = λ k. every_run st long 0 (λ j h l. all_at runs_limit j (λ i. run_empty (run_at st i)) l all) k (omega arith);
     }
 
 -- and a state of such numbers is empty
-pub state-empty : (st : State) → NoState st → stateEmpty st ≡ true
-state-empty st z =
+pub state_empty_lem : (st : State) → NoState st → state_empty st ≡ true
+state_empty_lem st z =
     rw (
-      eq-eqb (total st.counts) 0 (none-sum st.counts z.counts),
+      eq-eqb (total st.counts) 0 (none_sum st.counts z.counts),
       eq-eqb st.place 0 z.numbers.1,
       eq-eqb st.last.0 0 z.numbers.0,
       eq-eqb st.had 0 z.numbers.3,
       eq-eqb st.live 0 z.numbers.2,
-      all_from runsLimit (λ k. runEmpty (run_at st k)) (λ k h. empty-run (run_at st k) (z.runs k)),
+      all_from runs_limit (λ k. run_empty (run_at st k)) (λ k h. empty_run (run_at st k) (z.runs k)),
     )
 
 -- where a number is positive there is one
@@ -100,31 +100,31 @@ within xs p n e h =
 
 module _ (r : Record) (long : Shaped r) (x : Sound r) (i : ℕ) where
   -- the rule for a run of a task in use
-  run-rule : i < r.plan.count → i < tasksLimit → (k : ℕ) → runRule (line_at r i) (stateAt r i) k ≡ true
-  run-rule h l k =
-      let run = run_at (stateAt r i) k in
+  run_rule_lem : i < r.plan.count → i < tasks_limit → (k : ℕ) → run_rule (line_at r i) (state_at r i) k ≡ true
+  run_rule_lem h l k =
+      let run = run_at (state_at r i) k in
       let row = row_of (line_at r i) in
-      by_cases (ltb k (stateAt r i).live)
+      by_cases (ltb k (state_at r i).live)
       (λ t.
-      let m = ltb-true k (stateAt r i).live t in
+      let m = ltb-true k (state_at r i).live t in
       let on = x.runs i k h m in
-      let below = within row (run.core - 1) coresLimit (nums-long (line_at r i).shares coresLimit (long.plan.shares i l)) on.1 in
-      rw t (from-run-facts (line_at r i) run (record { from = on.0; to = omega arith; share = on.1; due = x.deadlines i k h m })))
-      (λ t. rw t (empty-run run (x.ended i k h (ltb-false k (stateAt r i).live t))))
+      let below = within row (run.core - 1) cores_limit (nums_long (line_at r i).shares cores_limit (long.plan.shares i l)) on.1 in
+      rw t (from_run_facts (line_at r i) run (record { from = on.0; to = omega arith; share = on.1; due = x.deadlines i k h m })))
+      (λ t. rw t (empty_run run (x.ended i k h (ltb-false k (state_at r i).live t))))
 
   -- a task in use, or past the N tasks
-  pub state-rule : i < tasksLimit → stateOk r.plan r.states i ≡ true
-  state-rule l =
-      let st = stateAt r i in
+  pub state_rule : i < tasks_limit → state_ok r.plan r.states i ≡ true
+  state_rule l =
+      let st = state_at r i in
       let had = eqb st.had 1 in
       let none = eqb st.last.0 0 in
       by_cases (ltb i r.plan.count)
       (λ t.
       let h = ltb-true i r.plan.count t in
       let n = x.ranges i h in
-      rw t (from-facts (line_at r i) st (record {
+      rw t (from_facts (line_at r i) st (record {
         few = n.live;
-        rules = λ k m. run-rule h l k;
+        rules = λ k m. run_rule_lem h l k;
         counts = x.counts i h;
         below = x.places i h;
         flag = n.had;
@@ -133,4 +133,4 @@ module _ (r : Record) (long : Shaped r) (x : Sound r) (i : ℕ) where
             (λ u. or_left had none u)
             (λ u. or_right had none (eq-eqb st.last.0 0 (x.unreleased i h (omega (arith, n.had, eqb-false st.had 1 u)))));
       })))
-      (λ t. rw t (state-empty st (x.past i (ltb-false i r.plan.count t)).1))
+      (λ t. rw t (state_empty_lem st (x.past i (ltb-false i r.plan.count t)).1))

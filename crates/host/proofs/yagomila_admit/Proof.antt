@@ -1,14 +1,14 @@
 -- `host::yagomila_admit` meets its contract.
 use mathlib.Core.Path.{ap, ◌∙◌}
-use Rattle.admission.specs.Admission.{admissionOf}
-use Rattle.host.proofs.Held.{part-within, part}
+use Rattle.admission.specs.Admission.{admission_of}
+use Rattle.host.proofs.Held.{part_within, part}
 use Rattle.host.proofs.Answers.{admitted}
 use borrow.Author.Rules.{rules}
 use Rattle.host.proofs.yagomila_admit.Statement.{statement}
 use Rattle.host.proofs.yagomila_admit.Tie as tie
 
-table-of-requires : tie.Need-table-of-requires
-table-of-requires c κs = search rules
+table_of_requires : tie.Need-table-of-requires
+table_of_requires c κs = search rules
 
 sub-admit : tie.Need-overflow-sub-admit
 sub-admit c = search rules
@@ -19,7 +19,7 @@ part-admit-start c = search rules
 part-admit-end : tie.Need-slice-bounds-admit-end
 part-admit-end c =
     let t = c.before.before in
-    part-within t.before.before.args.table.now t.table_of.result t.table_of.ensures
+    part_within t.before.before.args.table.now t.table_of.result t.table_of.ensures
 
 admit-requires : tie.Need-admit-requires
 admit-requires c κs = search rules
@@ -30,9 +30,9 @@ returns c =
     let t = a.before.before.before.before in
     let s = t.before.before.args in
     admitted s.cores s.table.now a.admit.result
-    (a.admit.ensures ∙ ap (admissionOf s.cores) (part s.table.now t.table_of.result t.table_of.ensures))
+    (a.admit.ensures ∙ ap (admission_of s.cores) (part s.table.now t.table_of.result t.table_of.ensures))
 
-pub yagomila-admit-spec : {M : Type 1} → statement M
-yagomila-admit-spec =
+pub yagomila_admit_spec : {M : Type 1} → statement M
+yagomila_admit_spec =
     tie.close
-    (tie.spec table-of-requires sub-admit part-admit-start part-admit-end admit-requires returns)
+    (tie.spec table_of_requires sub-admit part-admit-start part-admit-end admit-requires returns)

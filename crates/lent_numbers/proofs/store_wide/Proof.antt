@@ -18,8 +18,8 @@ same_length c = search rules
 returns : tie.Need-returns
 returns c = refl
 
-returns-2 : tie.Need-returns-2
-returns-2 c = sym (set_out _ _ _ c.if1.false)
+returns_2 : tie.Need-returns-2
+returns_2 c = sym (set_out _ _ _ c.if1.false)
 
-pub store-wide-spec : {M : Type 1} → statement M
-store-wide-spec = tie.close (tie.spec mul_wide slice-write-wide same_length returns returns-2)
+pub store_wide_spec : {M : Type 1} → statement M
+store_wide_spec = tie.close (tie.spec mul_wide slice-write-wide same_length returns returns_2)

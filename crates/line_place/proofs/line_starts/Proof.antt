@@ -14,8 +14,8 @@ sub-before c = search rules
 shared-slice-read-before : tie.Need-shared-slice-read-before
 shared-slice-read-before c = search rules
 
-returns-2 : tie.Need-returns-2
-returns-2 c = rw (ne_eqb _ 0 c.before.if1.false) refl
+returns_2 : tie.Need-returns-2
+returns_2 c = rw (ne_eqb _ 0 c.before.if1.false) refl
 
-pub line-starts-spec : {M : Type 1} → statement M
-line-starts-spec = tie.close (tie.spec returns sub-before shared-slice-read-before returns-2)
+pub line_starts_spec : {M : Type 1} → statement M
+line_starts_spec = tie.close (tie.spec returns sub-before shared-slice-read-before returns_2)

@@ -4,8 +4,8 @@ use mathlib.Core.Path.{sym, ◌∙◌}
 use native.Mathlib.Omega.{arith}
 use lib.ListN.{length}
 use borrow.Author.Rules.{rules}
-use Rattle.name_list.proofs.Lines.{line-ahead, line-ends}
-use Rattle.name_list.proofs.Compared.{line-whole, Twice, twice-first, twice-done, twice-none, twice-here, twice-later}
+use Rattle.name_list.proofs.Lines.{line_ahead, line_ends}
+use Rattle.name_list.proofs.Compared.{line_whole, Twice, twice_first, twice_done, twice_none, twice_here, twice_later}
 use Rattle.name_list.proofs.name_twice.Statement.{statement}
 use Rattle.name_list.proofs.name_twice.Tie as tie
 
@@ -15,62 +15,62 @@ invariant-loop names at₀ at = Twice names at
 abbrev decreases-loop : tie.decreases-loop
 decreases-loop names at₀ at = length names - at
 
-loop-holds : tie.Need-loop-init invariant-loop decreases-loop
-loop-holds c = twice-first _
+loop_holds : tie.Need-loop-init invariant-loop decreases-loop
+loop_holds c = twice_first _
 
-name-end-requires : tie.Need-name-end-requires invariant-loop decreases-loop
-name-end-requires c κs = search rules
+name_end_requires : tie.Need-name-end-requires invariant-loop decreases-loop
+name_end_requires c κs = search rules
 
 returns : tie.Need-returns invariant-loop decreases-loop
-returns c = twice-none _ _ c.before.before.before.loop.invariant c.before.before.loop-test.true c.before.name-end.ensures
+returns c = twice_none _ _ c.before.before.before.loop.invariant c.before.before.loop-test.true c.before.name_end_lem.ensures
     c.if1.true
 
-sub-name-again : tie.Need-overflow-sub-name-again invariant-loop decreases-loop
-sub-name-again c = omega (arith, line-ahead _ _ c.before.name-end.ensures c.if1.false)
+sub_name_again : tie.Need-overflow-sub-name-again invariant-loop decreases-loop
+sub_name_again c = omega (arith, line_ahead _ _ c.before.name_end_lem.ensures c.if1.false)
 
-part-name-again-start : tie.Need-slice-bounds-name-again-start invariant-loop decreases-loop
-part-name-again-start c = omega (arith, line-ahead _ _ c.before.name-end.ensures c.if1.false)
+part_name_again_start : tie.Need-slice-bounds-name-again-start invariant-loop decreases-loop
+part_name_again_start c = omega (arith, line_ahead _ _ c.before.name_end_lem.ensures c.if1.false)
 
-part-name-again-end : tie.Need-slice-bounds-name-again-end invariant-loop decreases-loop
-part-name-again-end c = line-ends _ _ c.before.name-end.ensures c.if1.false
+part_name_again_end : tie.Need-slice-bounds-name-again-end invariant-loop decreases-loop
+part_name_again_end c = line_ends _ _ c.before.name_end_lem.ensures c.if1.false
 
-name-again-requires : tie.Need-name-again-requires invariant-loop decreases-loop
-name-again-requires c κs = line-whole _ _ c.before.before.name-end.ensures c.before.if1.false
+name_again_requires : tie.Need-name-again-requires invariant-loop decreases-loop
+name_again_requires c κs = line_whole _ _ c.before.before.name_end_lem.ensures c.before.if1.false
 
-returns-2 : tie.Need-returns-2 invariant-loop decreases-loop
-returns-2 c =
+returns_2 : tie.Need-returns-2 invariant-loop decreases-loop
+returns_2 c =
     let k = c.before.before.before in
-    twice-here _ _ k.before.before.before.loop.invariant k.before.before.loop-test.true k.before.name-end.ensures k.if1.false
-    (sym c.before.name-again.ensures ∙ c.if2.true)
+    twice_here _ _ k.before.before.before.loop.invariant k.before.before.loop-test.true k.before.name_end_lem.ensures k.if1.false
+    (sym c.before.name_again_lem.ensures ∙ c.if2.true)
 
-loop-less : tie.Need-loop-smaller invariant-loop decreases-loop
-loop-less c =
+loop_less : tie.Need-loop-smaller invariant-loop decreases-loop
+loop_less c =
     let k = c.before.before.before in
-    omega (arith, k.before.before.loop-test.true, line-ahead _ _ k.before.name-end.ensures k.if1.false)
+    omega (arith, k.before.before.loop-test.true, line_ahead _ _ k.before.name_end_lem.ensures k.if1.false)
 
-loop-again : tie.Need-loop-preserved invariant-loop decreases-loop
-loop-again c =
+loop_again : tie.Need-loop-preserved invariant-loop decreases-loop
+loop_again c =
     let k = c.before.before.before in
-    twice-later _ _ k.before.before.before.loop.invariant k.before.before.loop-test.true k.before.name-end.ensures k.if1.false
-    (sym c.before.name-again.ensures ∙ c.if2.false)
+    twice_later _ _ k.before.before.before.loop.invariant k.before.before.loop-test.true k.before.name_end_lem.ensures k.if1.false
+    (sym c.before.name_again_lem.ensures ∙ c.if2.false)
 
-returns-3 : tie.Need-returns-3 invariant-loop decreases-loop
-returns-3 c = twice-done _ _ c.before.loop.invariant c.loop-test.false
+returns_3 : tie.Need-returns-3 invariant-loop decreases-loop
+returns_3 c = twice_done _ _ c.before.loop.invariant c.loop-test.false
 
-pub name-twice-spec : {M : Type 1} → statement M
-name-twice-spec =
+pub name_twice_spec : {M : Type 1} → statement M
+name_twice_spec =
     tie.close
     (tie.spec
     invariant-loop
     decreases-loop
-    loop-holds
-    name-end-requires
+    loop_holds
+    name_end_requires
     returns
-    sub-name-again
-    part-name-again-start
-    part-name-again-end
-    name-again-requires
-    returns-2
-    loop-less
-    loop-again
-    returns-3)
+    sub_name_again
+    part_name_again_start
+    part_name_again_end
+    name_again_requires
+    returns_2
+    loop_less
+    loop_again
+    returns_3)

@@ -1,5 +1,5 @@
 -- `planning::drawn` meets its contract.
-use Rattle.planning.specs.Plan.{linesOf, paddedLines, planFor}
+use Rattle.planning.specs.Plan.{lines_of, padded_lines, plan_for}
 use Rattle.planning.specs.declared.Line.{Line}
 use Rattle.assignment.specs.Passes.{shares_of}
 use Rattle.units.specs.Units.{nums}
@@ -21,14 +21,14 @@ lines-of-requires : tie.Need-lines-of-requires
 lines-of-requires c κs = search rules
 
 returns : tie.Need-returns
-unfolding planFor
+unfolding plan_for
 returns c =
     let s = c.before.before.before.before.args in
     let room = c.before.before.rooms-of in
-    let rows = c.before.shares-of in
+    let rows = c.before.shares_of_lem in
     ap (λ (lns : List Line). record { cores = s.cores; count = length s.table.now / 2; common = s.common; lines = lns })
-    (c.lines_of.ensures ∙ ap (λ (tab : List (List ℕ)). paddedLines (linesOf s.table.now (nums s.weights) tab))
+    (c.lines_of.ensures ∙ ap (λ (tab : List (List ℕ)). padded_lines (lines_of s.table.now (nums s.weights) tab))
     (rows.ensures ∙ ap (shares_of (nums s.weights)) room.ensures))
 
-pub drawn-spec : {M : Type 1} → statement M
-drawn-spec = tie.close (tie.spec rooms-of-requires shares-of-requires lines-of-requires returns)
+pub drawn_spec : {M : Type 1} → statement M
+drawn_spec = tie.close (tie.spec rooms-of-requires shares-of-requires lines-of-requires returns)

@@ -1,16 +1,16 @@
 -- `rehearsal_answer::put_planned` meets its contract.
 use mathlib.Core.Path.{refl}
 use Rattle.day_window.proofs.Windows.{recast}
-use Rattle.rehearsal_answer.proofs.Texts.{due, table-refused, stop-above, stop-within, stoppable}
+use Rattle.rehearsal_answer.proofs.Texts.{due, table_refused, stop_above, stop_within, stoppable}
 use borrow.Author.Rules.{rules}
 use Rattle.rehearsal_answer.proofs.put_planned.Statement.{statement}
 use Rattle.rehearsal_answer.proofs.put_planned.Tie as tie
 
-plan-of-requires : tie.Need-plan-of-requires
-plan-of-requires c κs = search rules
+plan_of_requires : tie.Need-plan-of-requires
+plan_of_requires c κs = search rules
 
-put-refusal-within-requires : tie.Need-put-refusal-within-requires
-put-refusal-within-requires c κs = search rules
+put_refusal_within_requires : tie.Need-put-refusal-within-requires
+put_refusal_within_requires c κs = search rules
 
 same_length : tie.Need-same-length
 same_length c = search rules
@@ -20,51 +20,51 @@ returns c =
     let p = c.before.before in
     let i = p.before.before in
     let a = i.before.before.before in
-    due (table-refused _ _ _ _ _ a.plan-of.ensures i.if1.true) p.put-refusal-within.ensures refl
+    due (table_refused _ _ _ _ _ a.plan_of_lem.ensures i.if1.true) p.put-refusal-within.ensures refl
 
-put-refusal-within-requires-2 : tie.Need-put-refusal-within-requires-2
-put-refusal-within-requires-2 c κs = search rules
+put_refusal_within_requires_2 : tie.Need-put-refusal-within-requires-2
+put_refusal_within_requires_2 c κs = search rules
 
-same-length-2 : tie.Need-same-length-2
-same-length-2 c = search rules
+same_length_2 : tie.Need-same-length-2
+same_length_2 c = search rules
 
-returns-2 : tie.Need-returns-2
-returns-2 c =
+returns_2 : tie.Need-returns-2
+returns_2 c =
     let p = c.before.before in
     let j = p.before.before in
     let i = j.before in
     let a = i.before.before.before in
-    due (stop-above _ _ _ _ _ a.plan-of.ensures i.if1.false j.if2.true) p.put-refusal-within2.ensures refl
+    due (stop_above _ _ _ _ _ a.plan_of_lem.ensures i.if1.false j.if2.true) p.put-refusal-within2.ensures refl
 
-put-tested-requires : tie.Need-put-tested-requires
-put-tested-requires c κs =
+put_tested_requires : tie.Need-put-tested-requires
+put_tested_requires c κs =
     let j = c.before in
     let i = j.before in
     let a = i.before.before.before in
-    stoppable _ _ _ a.plan-of.ensures i.if1.false j.if2.false
+    stoppable _ _ _ a.plan_of_lem.ensures i.if1.false j.if2.false
 
-same-length-3 : tie.Need-same-length-3
-same-length-3 c = search rules
+same_length_3 : tie.Need-same-length-3
+same_length_3 c = search rules
 
-returns-3 : tie.Need-returns-3
-returns-3 c =
+returns_3 : tie.Need-returns-3
+returns_3 c =
     let p = c.before.before in
     let j = p.before.before in
     let i = j.before in
     let a = i.before.before.before in
-    recast (stop-within _ _ _ _ _ a.plan-of.ensures i.if1.false j.if2.false) p.put-tested.ensures
+    recast (stop_within _ _ _ _ _ a.plan_of_lem.ensures i.if1.false j.if2.false) p.put-tested.ensures
 
-pub put-planned-spec : {M : Type 1} → statement M
-put-planned-spec =
+pub put_planned_spec : {M : Type 1} → statement M
+put_planned_spec =
     tie.close
     (tie.spec
-    plan-of-requires
-    put-refusal-within-requires
+    plan_of_requires
+    put_refusal_within_requires
     same_length
     returns
-    put-refusal-within-requires-2
-    same-length-2
-    returns-2
-    put-tested-requires
-    same-length-3
-    returns-3)
+    put_refusal_within_requires_2
+    same_length_2
+    returns_2
+    put_tested_requires
+    same_length_3
+    returns_3)

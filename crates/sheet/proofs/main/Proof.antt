@@ -4,69 +4,69 @@ use borrow.Author.Rules.{rules}
 use Rattle.sheet.proofs.main.Statement.{statement}
 use Rattle.sheet.proofs.main.Tie as tie
 
-slice-aggregate-read-input : tie.Need-slice-aggregate-read-input
-slice-aggregate-read-input c = search rules
+slice_aggregate_read_input : tie.Need-slice-aggregate-read-input
+slice_aggregate_read_input c = search rules
 
-read-input-requires : tie.Need-read-input-requires
-read-input-requires c κs = search rules
+read_input_requires : tie.Need-read-input-requires
+read_input_requires c κs = search rules
 
 enum_told : tie.Need-enum-told
 enum_told c = search rules
 
-enum-known-n : tie.Need-enum-known-n
-enum-known-n c = search rules
+enum_known_n : tie.Need-enum-known-n
+enum_known_n c = search rules
 
-sub-answer-sheet : tie.Need-overflow-sub-answer-sheet
-sub-answer-sheet c = search rules
+sub_answer_sheet : tie.Need-overflow-sub-answer-sheet
+sub_answer_sheet c = search rules
 
-part-answer-sheet-start : tie.Need-slice-bounds-answer-sheet-start
-part-answer-sheet-start c = search rules
+part_answer_sheet_start : tie.Need-slice-bounds-answer-sheet-start
+part_answer_sheet_start c = search rules
 
-part-answer-sheet-end : tie.Need-slice-bounds-answer-sheet-end
-part-answer-sheet-end c =
+part_answer_sheet_end : tie.Need-slice-bounds-answer-sheet-end
+part_answer_sheet_end c =
     let k = c.before.before in
     within _ _ k.n.given.1 k.before.before.before.read-input.ensures
 
-slice-aggregate-answer-sheet : tie.Need-slice-aggregate-answer-sheet
-slice-aggregate-answer-sheet c = search rules
+slice_aggregate_answer_sheet : tie.Need-slice-aggregate-answer-sheet
+slice_aggregate_answer_sheet c = search rules
 
-answer-sheet-requires : tie.Need-answer-sheet-requires
-answer-sheet-requires c κs = search rules
+answer_sheet_requires : tie.Need-answer-sheet-requires
+answer_sheet_requires c κs = search rules
 
-sub-write-output : tie.Need-overflow-sub-write-output
-sub-write-output c = search rules
+sub_write_output : tie.Need-overflow-sub-write-output
+sub_write_output c = search rules
 
-part-write-output-start : tie.Need-slice-bounds-write-output-start
-part-write-output-start c = search rules
+part_write_output_start : tie.Need-slice-bounds-write-output-start
+part_write_output_start c = search rules
 
-part-write-output-end : tie.Need-slice-bounds-write-output-end
-part-write-output-end c = search rules
+part_write_output_end : tie.Need-slice-bounds-write-output-end
+part_write_output_end c = search rules
 
-write-output-requires : tie.Need-write-output-requires
-write-output-requires c κs = search rules
+write_output_requires : tie.Need-write-output-requires
+write_output_requires c κs = search rules
 
 returns : tie.Need-returns
 returns c = search rules
 
-returns-2 : tie.Need-returns-2
-returns-2 c = search rules
+returns_2 : tie.Need-returns-2
+returns_2 c = search rules
 
 pub main_spec : {M : Type 1} → statement M
 main_spec =
     tie.close
     (tie.spec
-    slice-aggregate-read-input
-    read-input-requires
+    slice_aggregate_read_input
+    read_input_requires
     enum_told
-    enum-known-n
-    sub-answer-sheet
-    part-answer-sheet-start
-    part-answer-sheet-end
-    slice-aggregate-answer-sheet
-    answer-sheet-requires
-    sub-write-output
-    part-write-output-start
-    part-write-output-end
-    write-output-requires
+    enum_known_n
+    sub_answer_sheet
+    part_answer_sheet_start
+    part_answer_sheet_end
+    slice_aggregate_answer_sheet
+    answer_sheet_requires
+    sub_write_output
+    part_write_output_start
+    part_write_output_end
+    write_output_requires
     returns
-    returns-2)
+    returns_2)

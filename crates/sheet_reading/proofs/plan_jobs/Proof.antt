@@ -1,32 +1,32 @@
 -- `sheet_reading::plan_jobs` meets its contract.
 use mathlib.Core.Path.{◌∙◌}
 use borrow.Author.Rules.{rules}
-use Rattle.sheet_reading.proofs.Plans.{plan-no, plan-is}
+use Rattle.sheet_reading.proofs.Plans.{plan_no, plan_is}
 use Rattle.sheet_reading.proofs.plan_jobs.Statement.{statement}
 use Rattle.sheet_reading.proofs.plan_jobs.Tie as tie
 
-plan-of-requires : tie.Need-plan-of-requires
-plan-of-requires c κs = search rules
+plan_of_requires : tie.Need-plan-of-requires
+plan_of_requires c κs = search rules
 
-unread-requires : tie.Need-unread-requires
-unread-requires c κs = search rules
+unread_requires : tie.Need-unread-requires
+unread_requires c κs = search rules
 
 returns : tie.Need-returns
 returns c =
     let i = c.before in
-    c.unread.ensures ∙ plan-no _ _ i.before.before.before.plan-of.ensures i.if1.true
+    c.unread.ensures ∙ plan_no _ _ i.before.before.before.plan_of_lem.ensures i.if1.true
 
-slice-aggregate-put-names : tie.Need-slice-aggregate-put-names
-slice-aggregate-put-names c = search rules
+slice_aggregate_put_names : tie.Need-slice-aggregate-put-names
+slice_aggregate_put_names c = search rules
 
-put-names-requires : tie.Need-put-names-requires
-put-names-requires c κs = search rules
+put_names_requires : tie.Need-put-names-requires
+put_names_requires c κs = search rules
 
-returns-2 : tie.Need-returns-2
-returns-2 c =
+returns_2 : tie.Need-returns-2
+returns_2 c =
     let p = c.before.before in
     let i = p.before.before in
-    plan-is _ _ i.before.before.before.plan-of.ensures i.if1.false p.put-names.ensures
+    plan_is _ _ i.before.before.before.plan_of_lem.ensures i.if1.false p.put_names_lem.ensures
 
-pub plan-jobs-spec : {M : Type 1} → statement M
-plan-jobs-spec = tie.close (tie.spec plan-of-requires unread-requires returns slice-aggregate-put-names put-names-requires returns-2)
+pub plan_jobs_spec : {M : Type 1} → statement M
+plan_jobs_spec = tie.close (tie.spec plan_of_requires unread_requires returns slice_aggregate_put_names put_names_requires returns_2)

@@ -2,7 +2,7 @@
 use Prim.Native.Nat.{◌*◌, ◌<◌}
 use native.Mathlib.Omega.{arith}
 use Rattle.writing.proofs.Wrote.{then}
-use Rattle.sheet_writing.proofs.Sheet.{product-fits}
+use Rattle.sheet_writing.proofs.Sheet.{product_fits}
 use borrow.Author.Rules.{rules}
 use Rattle.sheet_writing.proofs.put_job.Statement.{statement}
 use Rattle.sheet_writing.proofs.put_job.Tie as tie
@@ -11,33 +11,33 @@ use Rattle.sheet_writing.proofs.put_job.Tie as tie
 small : (s : tie.Start) → (s.args.cost * s.args.tick < 18446744073709551616) × (s.args.period * s.args.tick < 18446744073709551616)
 small s =
     let t : s.args.tick < 4294967296 = omega (arith, s.ranges.tick) in
-    (product-fits _ _ (omega (arith, s.ranges.cost)) t, product-fits _ _ (omega (arith, s.ranges.period)) t)
+    (product_fits _ _ (omega (arith, s.ranges.cost)) t, product_fits _ _ (omega (arith, s.ranges.period)) t)
 
-put-text-requires : tie.Need-put-text-requires
-put-text-requires c κs = search rules
+put_text_requires : tie.Need-put-text-requires
+put_text_requires c κs = search rules
 
-slice-aggregate-put-field : tie.Need-slice-aggregate-put-field
-slice-aggregate-put-field c = search rules
+slice_aggregate_put_field : tie.Need-slice-aggregate-put-field
+slice_aggregate_put_field c = search rules
 
-mul-put-field : tie.Need-overflow-mul-put-field
-mul-put-field c = omega (arith, small c.before.before.before.before.before.before.before.before)
+mul_put_field : tie.Need-overflow-mul-put-field
+mul_put_field c = omega (arith, small c.before.before.before.before.before.before.before.before)
 
-put-field-requires : tie.Need-put-field-requires
-put-field-requires c κs = search rules
+put_field_requires : tie.Need-put-field-requires
+put_field_requires c κs = search rules
 
-slice-aggregate-put-field-2 : tie.Need-slice-aggregate-put-field-2
-slice-aggregate-put-field-2 c = search rules
+slice_aggregate_put_field_2 : tie.Need-slice-aggregate-put-field-2
+slice_aggregate_put_field_2 c = search rules
 
-mul-put-field-2 : tie.Need-overflow-mul-put-field-2
-mul-put-field-2 c =
+mul_put_field_2 : tie.Need-overflow-mul-put-field-2
+mul_put_field_2 c =
     let f = c.before.before.before.before.before in
     omega (arith, small f.before.before.before.before.before.before.before.before)
 
-put-field-requires-2 : tie.Need-put-field-requires-2
-put-field-requires-2 c κs = search rules
+put_field_requires_2 : tie.Need-put-field-requires-2
+put_field_requires_2 c κs = search rules
 
-put-byte-requires : tie.Need-put-byte-requires
-put-byte-requires c κs = search rules
+put_byte_requires : tie.Need-put-byte-requires
+put_byte_requires c κs = search rules
 
 same_length : tie.Need-same-length
 same_length c = search rules
@@ -49,21 +49,21 @@ returns c =
     let f = g.before.before.before.before.before in
     let t = f.before.before.before.before.before in
     let s = t.before.before.before.before in (
-      then (then (then t.put-text.ensures f.put-field.ensures.0) g.put-field2.ensures.0) b.put_byte.ensures,
-      omega (arith, t.put-text.ensures.end, f.put-field.ensures.1, g.put-field2.ensures.1, b.put_byte.ensures.end, s.requires.1),
+      then (then (then t.put_text_lem.ensures f.put_field_lem.ensures.0) g.put-field2.ensures.0) b.put_byte.ensures,
+      omega (arith, t.put_text_lem.ensures.end, f.put_field_lem.ensures.1, g.put-field2.ensures.1, b.put_byte.ensures.end, s.requires.1),
     )
 
-pub put-job-spec : {M : Type 1} → statement M
-put-job-spec =
+pub put_job_spec : {M : Type 1} → statement M
+put_job_spec =
     tie.close
     (tie.spec
-    put-text-requires
-    slice-aggregate-put-field
-    mul-put-field
-    put-field-requires
-    slice-aggregate-put-field-2
-    mul-put-field-2
-    put-field-requires-2
-    put-byte-requires
+    put_text_requires
+    slice_aggregate_put_field
+    mul_put_field
+    put_field_requires
+    slice_aggregate_put_field_2
+    mul_put_field_2
+    put_field_requires_2
+    put_byte_requires
     same_length
     returns)

@@ -1,5 +1,5 @@
 -- `sheet_writing::write_sheet` meets its contract.
-use Rattle.sheet_writing.proofs.Answers.{refused, table-few, fits}
+use Rattle.sheet_writing.proofs.Answers.{refused, table_few, fits}
 use borrow.Author.Rules.{rules}
 use Rattle.sheet_writing.proofs.write_sheet.Statement.{statement}
 use Rattle.sheet_writing.proofs.write_sheet.Tie as tie
@@ -18,13 +18,13 @@ write-taken-requires c κs =
     let i = c.before in
     let r = i.before.before in
     let s = r.before.before.before.before.args in
-    table-few s.cores s.table.now s.names.now s.tick s.buf.now r.write-refusal.ensures i.if1.false
+    table_few s.cores s.table.now s.names.now s.tick s.buf.now r.write-refusal.ensures i.if1.false
 
 same_length : tie.Need-same-length
 same_length c = search rules
 
-returns-2 : tie.Need-returns-2
-returns-2 c =
+returns_2 : tie.Need-returns-2
+returns_2 c =
     let w = c.before.before in
     let i = w.before.before in
     let r = i.before.before in
@@ -32,6 +32,6 @@ returns-2 c =
     fits s.cores s.table.now s.names.now s.tick s.buf.now r.write-refusal.ensures i.if1.false w.write-taken.ensures.0
     w.write-taken.ensures.1
 
-pub write-sheet-spec : {M : Type 1} → statement M
-write-sheet-spec =
-    tie.close (tie.spec write-refusal-requires returns write-taken-requires same_length returns-2)
+pub write_sheet_spec : {M : Type 1} → statement M
+write_sheet_spec =
+    tie.close (tie.spec write-refusal-requires returns write-taken-requires same_length returns_2)

@@ -6,5 +6,5 @@ use Rattle.state_rules.proofs.last_sound.Tie as tie
 returns : tie.Need-returns
 returns c = refl
 
-pub last-sound-spec : {M : Type 1} → statement M
-last-sound-spec = tie.close (tie.spec returns)
+pub last_sound_spec : {M : Type 1} → statement M
+last_sound_spec = tie.close (tie.spec returns)

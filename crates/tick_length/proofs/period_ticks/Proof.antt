@@ -14,5 +14,5 @@ hold-requires c κs = search rules
 returns : tie.Need-returns
 returns c = c.hold.ensures ∙ ap held c.before.rounded.ensures
 
-pub period-ticks-spec : {M : Type 1} → statement M
-period-ticks-spec = tie.close (tie.spec rounded-requires hold-requires returns)
+pub period_ticks_spec : {M : Type 1} → statement M
+period_ticks_spec = tie.close (tie.spec rounded-requires hold-requires returns)

@@ -6,5 +6,5 @@ use Rattle.tick_length.proofs.tick_in.Tie as tie
 returns : tie.Need-returns
 returns c = refl
 
-pub tick-in-spec : {M : Type 1} → statement M
-tick-in-spec = tie.close (tie.spec returns)
+pub tick_in_spec : {M : Type 1} → statement M
+tick_in_spec = tie.close (tie.spec returns)

@@ -5,11 +5,11 @@ use lib.Seq.{set_out}
 use Rattle.writing.proofs.put_byte.Statement.{statement}
 use Rattle.writing.proofs.put_byte.Tie as tie
 
-add-next : tie.Need-overflow-add-next
-add-next c = search rules
+add_next : tie.Need-overflow-add-next
+add_next c = search rules
 
-slice-write-buf : tie.Need-slice-write-buf
-slice-write-buf c = search rules
+slice_write_buf : tie.Need-slice-write-buf
+slice_write_buf c = search rules
 
 same_length : tie.Need-same-length
 same_length c = search rules
@@ -17,8 +17,8 @@ same_length c = search rules
 returns : tie.Need-returns
 returns c = search rules
 
-returns-2 : tie.Need-returns-2
-returns-2 c = record { bytes = sym (set_out _ _ _ c.if1.false); end = search rules }
+returns_2 : tie.Need-returns-2
+returns_2 c = record { bytes = sym (set_out _ _ _ c.if1.false); end = search rules }
 
-pub put-byte-spec : {M : Type 1} → statement M
-put-byte-spec = tie.close (tie.spec add-next slice-write-buf same_length returns returns-2)
+pub put_byte_spec : {M : Type 1} → statement M
+put_byte_spec = tie.close (tie.spec add_next slice_write_buf same_length returns returns_2)

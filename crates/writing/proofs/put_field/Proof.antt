@@ -4,11 +4,11 @@ use Rattle.writing.proofs.Wrote.{then}
 use Rattle.writing.proofs.put_field.Statement.{statement}
 use Rattle.writing.proofs.put_field.Tie as tie
 
-put-text-requires : tie.Need-put-text-requires
-put-text-requires c κs = search rules
+put_text_requires : tie.Need-put-text-requires
+put_text_requires c κs = search rules
 
-put-number-requires : tie.Need-put-number-requires
-put-number-requires c κs = search rules
+put_number_requires : tie.Need-put-number-requires
+put_number_requires c κs = search rules
 
 same_length : tie.Need-same-length
 same_length c = search rules
@@ -16,5 +16,5 @@ same_length c = search rules
 returns : tie.Need-returns
 returns c = (search then, search rules)
 
-pub put-field-spec : {M : Type 1} → statement M
-put-field-spec = tie.close (tie.spec put-text-requires put-number-requires same_length returns)
+pub put_field_spec : {M : Type 1} → statement M
+put_field_spec = tie.close (tie.spec put_text_requires put_number_requires same_length returns)

@@ -17,14 +17,14 @@ short c = ltb-true _ _ (and_left _ _ c.if1.true)
 room : (c : tie.Then1) → c.before.before.args.at + 8 ≤ length c.before.before.args.buf.now
 room c = leb-true _ _ (and_right (ltb c.before.before.args.n 100000000) _ c.if1.true)
 
-add-if1 : tie.Need-overflow-add-if1
-add-if1 c = search rules
+add_if1 : tie.Need-overflow-add-if1
+add_if1 c = search rules
 
-cast-put-short : tie.Need-overflow-cast-put-short
-cast-put-short c = record { fits = omega (arith, short c.before) }
+cast_put_short : tie.Need-overflow-cast-put-short
+cast_put_short c = record { fits = omega (arith, short c.before) }
 
-put-short-requires : tie.Need-put-short-requires
-put-short-requires c κs = (short c.before, room c.before)
+put_short_requires : tie.Need-put-short-requires
+put_short_requires c κs = (short c.before, room c.before)
 
 same_length : tie.Need-same-length
 same_length c = search rules
@@ -32,24 +32,24 @@ same_length c = search rules
 returns : tie.Need-returns
 returns c = search rules
 
-put-cut-requires : tie.Need-put-cut-requires
-put-cut-requires c κs = search rules
+put_cut_requires : tie.Need-put-cut-requires
+put_cut_requires c κs = search rules
 
-same-length-2 : tie.Need-same-length-2
-same-length-2 c = search rules
+same_length_2 : tie.Need-same-length-2
+same_length_2 c = search rules
 
-returns-2 : tie.Need-returns-2
-returns-2 c = search rules
+returns_2 : tie.Need-returns-2
+returns_2 c = search rules
 
-pub put-number-spec : {M : Type 1} → statement M
-put-number-spec =
+pub put_number_spec : {M : Type 1} → statement M
+put_number_spec =
     tie.close
     (tie.spec
-    add-if1
-    cast-put-short
-    put-short-requires
+    add_if1
+    cast_put_short
+    put_short_requires
     same_length
     returns
-    put-cut-requires
-    same-length-2
-    returns-2)
+    put_cut_requires
+    same_length_2
+    returns_2)

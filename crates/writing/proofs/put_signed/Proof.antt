@@ -5,17 +5,17 @@ use Rattle.writing.proofs.Wrote.{then, recast}
 use Rattle.writing.proofs.put_signed.Statement.{statement}
 use Rattle.writing.proofs.put_signed.Tie as tie
 
-size-requires : tie.Need-size-requires
-size-requires c κs = search rules
+size_requires : tie.Need-size-requires
+size_requires c κs = search rules
 
-put-byte-requires : tie.Need-put-byte-requires
-put-byte-requires c κs = search rules
+put_byte_requires : tie.Need-put-byte-requires
+put_byte_requires c κs = search rules
 
-put-number-requires : tie.Need-put-number-requires
-put-number-requires c κs = search rules
+put_number_requires : tie.Need-put-number-requires
+put_number_requires c κs = search rules
 
-put-number-requires-2 : tie.Need-put-number-requires-2
-put-number-requires-2 c κs = search rules
+put_number_requires_2 : tie.Need-put-number-requires-2
+put_number_requires_2 c κs = search rules
 
 same_length : tie.Need-same-length
 same_length c = search rules
@@ -27,15 +27,15 @@ returns c =
     let i = p1.before.before in
     let s = c.before.before.before.before.before.before.before.before.before.before.before in (
       recast (signed_below s.args.z _ (down s.args.z s.ranges.z i.if1.true) s.ranges.z i.before.size.ensures)
-          (then p1.put_byte.ensures p2.put-number.ensures.0),
+          (then p1.put_byte.ensures p2.put_number_lem.ensures.0),
       search rules,
     )
 
-same-length-2 : tie.Need-same-length-2
-same-length-2 c = search rules
+same_length_2 : tie.Need-same-length-2
+same_length_2 c = search rules
 
-returns-2 : tie.Need-returns-2
-returns-2 c =
+returns_2 : tie.Need-returns-2
+returns_2 c =
     let p1 = c.before.before in
     let i = p1.before.before in
     let s = c.before.before.before.before.before.before.before in (
@@ -44,15 +44,15 @@ returns-2 c =
       search rules,
     )
 
-pub put-signed-spec : {M : Type 1} → statement M
-put-signed-spec =
+pub put_signed_spec : {M : Type 1} → statement M
+put_signed_spec =
     tie.close
     (tie.spec
-    size-requires
-    put-byte-requires
-    put-number-requires
-    put-number-requires-2
+    size_requires
+    put_byte_requires
+    put_number_requires
+    put_number_requires_2
     same_length
     returns
-    same-length-2
-    returns-2)
+    same_length_2
+    returns_2)

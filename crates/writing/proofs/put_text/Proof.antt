@@ -17,11 +17,11 @@ invariant-loop buf₀ at text next₀ i₀ buf next i =
 abbrev decreases-loop : tie.decreases-loop
 decreases-loop buf₀ at text next₀ i₀ buf next i = length text - i
 
-add-if1 : tie.Need-overflow-add-if1 invariant-loop decreases-loop
-add-if1 c = search rules
+add_if1 : tie.Need-overflow-add-if1 invariant-loop decreases-loop
+add_if1 c = search rules
 
-put-whole-requires : tie.Need-put-whole-requires invariant-loop decreases-loop
-put-whole-requires c κs = search rules
+put_whole_requires : tie.Need-put-whole-requires invariant-loop decreases-loop
+put_whole_requires c κs = search rules
 
 same_length : tie.Need-same-length invariant-loop decreases-loop
 same_length c = search rules
@@ -29,27 +29,27 @@ same_length c = search rules
 returns : tie.Need-returns invariant-loop decreases-loop
 returns c = c.before.before.put_whole.ensures
 
-loop-holds : tie.Need-loop-init invariant-loop decreases-loop
-loop-holds c = (search rules, none _ _, search rules)
+loop_holds : tie.Need-loop-init invariant-loop decreases-loop
+loop_holds c = (search rules, none _ _, search rules)
 
-shared-slice-read-b : tie.Need-shared-slice-read-b invariant-loop decreases-loop
-shared-slice-read-b c = search rules
+shared_slice_read_b : tie.Need-shared-slice-read-b invariant-loop decreases-loop
+shared_slice_read_b c = search rules
 
-put-byte-requires : tie.Need-put-byte-requires invariant-loop decreases-loop
-put-byte-requires c κs =
+put_byte_requires : tie.Need-put-byte-requires invariant-loop decreases-loop
+put_byte_requires c κs =
     let q = c.before.before.before in
     let l = q.loop in
     let w = q.before.before.before.before.args.text.now in
     omega (arith, l.invariant.1.end, length-take-le l.i w l.invariant.0)
 
-add-i : tie.Need-overflow-add-i invariant-loop decreases-loop
-add-i c = search rules
+add_i : tie.Need-overflow-add-i invariant-loop decreases-loop
+add_i c = search rules
 
-loop-less : tie.Need-loop-smaller invariant-loop decreases-loop
-loop-less c = search rules
+loop_less : tie.Need-loop-smaller invariant-loop decreases-loop
+loop_less c = search rules
 
-loop-again : tie.Need-loop-preserved invariant-loop decreases-loop
-loop-again c =
+loop_again : tie.Need-loop-preserved invariant-loop decreases-loop
+loop_again c =
     let p = c.before.before in
     let t = p.before.before.before in
     let l = t.before.loop in
@@ -59,29 +59,29 @@ loop-again c =
       p.put_byte.auto.0 ∙ l.invariant.2,
     )
 
-same-length-2 : tie.Need-same-length-2 invariant-loop decreases-loop
-same-length-2 c = search rules
+same_length_2 : tie.Need-same-length-2 invariant-loop decreases-loop
+same_length_2 c = search rules
 
-returns-2 : tie.Need-returns-2 invariant-loop decreases-loop
-returns-2 c =
+returns_2 : tie.Need-returns-2 invariant-loop decreases-loop
+returns_2 c =
     let l = c.before.loop in
     every_byte c.before.before.before.before.before.args.text.now l.i (omega arith) l.invariant.1
 
-pub put-text-spec : {M : Type 1} → statement M
-put-text-spec =
+pub put_text_spec : {M : Type 1} → statement M
+put_text_spec =
     tie.close
     (tie.spec
     invariant-loop
     decreases-loop
-    add-if1
-    put-whole-requires
+    add_if1
+    put_whole_requires
     same_length
     returns
-    loop-holds
-    shared-slice-read-b
-    put-byte-requires
-    add-i
-    loop-less
-    loop-again
-    same-length-2
-    returns-2)
+    loop_holds
+    shared_slice_read_b
+    put_byte_requires
+    add_i
+    loop_less
+    loop_again
+    same_length_2
+    returns_2)

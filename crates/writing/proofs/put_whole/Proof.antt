@@ -16,26 +16,26 @@ invariant-loop buf₀ at text next₀ i₀ buf next i =
 abbrev decreases-loop : tie.decreases-loop
 decreases-loop buf₀ at text next₀ i₀ buf next i = length text - i
 
-loop-holds : tie.Need-loop-init invariant-loop decreases-loop
-loop-holds c = (search rules, search rules, none _ _, search rules)
+loop_holds : tie.Need-loop-init invariant-loop decreases-loop
+loop_holds c = (search rules, search rules, none _ _, search rules)
 
-shared-slice-read-b : tie.Need-shared-slice-read-b invariant-loop decreases-loop
-shared-slice-read-b c = search rules
+shared_slice_read_b : tie.Need-shared-slice-read-b invariant-loop decreases-loop
+shared_slice_read_b c = search rules
 
-slice-write-buf : tie.Need-slice-write-buf invariant-loop decreases-loop
-slice-write-buf c = search rules
+slice_write_buf : tie.Need-slice-write-buf invariant-loop decreases-loop
+slice_write_buf c = search rules
 
-add-next : tie.Need-overflow-add-next invariant-loop decreases-loop
-add-next c = search rules
+add_next : tie.Need-overflow-add-next invariant-loop decreases-loop
+add_next c = search rules
 
-add-i : tie.Need-overflow-add-i invariant-loop decreases-loop
-add-i c = search rules
+add_i : tie.Need-overflow-add-i invariant-loop decreases-loop
+add_i c = search rules
 
-loop-less : tie.Need-loop-smaller invariant-loop decreases-loop
-loop-less c = search rules
+loop_less : tie.Need-loop-smaller invariant-loop decreases-loop
+loop_less c = search rules
 
-loop-again : tie.Need-loop-preserved invariant-loop decreases-loop
-loop-again c =
+loop_again : tie.Need-loop-preserved invariant-loop decreases-loop
+loop_again c =
     let l = c.before.before.loop in
     let w = c.before.before.before.args.text.now in (
       search rules,
@@ -52,18 +52,18 @@ returns c =
     let l = c.before.loop in
     every_byte c.before.before.args.text.now l.i (omega arith) l.invariant.2
 
-pub put-whole-spec : {M : Type 1} → statement M
-put-whole-spec =
+pub put_whole_spec : {M : Type 1} → statement M
+put_whole_spec =
     tie.close
     (tie.spec
     invariant-loop
     decreases-loop
-    loop-holds
-    shared-slice-read-b
-    slice-write-buf
-    add-next
-    add-i
-    loop-less
-    loop-again
+    loop_holds
+    shared_slice_read_b
+    slice_write_buf
+    add_next
+    add_i
+    loop_less
+    loop_again
     same_length
     returns)

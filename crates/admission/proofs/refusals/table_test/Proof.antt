@@ -10,8 +10,8 @@ no-table-requires c κs = search rules
 returns : tie.Need-returns
 returns c = rw (sym c.before.no_table.ensures ∙ c.if1.true)
 
-returns-2 : tie.Need-returns-2
-returns-2 c = rw (sym c.before.no_table.ensures ∙ c.if1.false)
+returns_2 : tie.Need-returns-2
+returns_2 c = rw (sym c.before.no_table.ensures ∙ c.if1.false)
 
-pub table-test-spec : {M : Type 1} → statement M
-table-test-spec = tie.close (tie.spec no-table-requires returns returns-2)
+pub table_test_spec : {M : Type 1} → statement M
+table_test_spec = tie.close (tie.spec no-table-requires returns returns_2)

@@ -8,15 +8,15 @@ returns c =
     let s = c.before.args in
     unfit s.i s.cost s.period c.if1.true
 
-returns-2 : tie.Need-returns-2
-returns-2 c =
+returns_2 : tie.Need-returns-2
+returns_2 c =
     let s = c.before.before.args in
     costly s.i s.cost s.period c.before.if1.false c.if2.true
 
-returns-3 : tie.Need-returns-3
-returns-3 c =
+returns_3 : tie.Need-returns-3
+returns_3 c =
     let s = c.before.before.args in
     fitting s.i s.cost s.period c.before.if1.false c.if2.false
 
-pub task-test-spec : {M : Type 1} → statement M
-task-test-spec = tie.close (tie.spec returns returns-2 returns-3)
+pub task_test_spec : {M : Type 1} → statement M
+task_test_spec = tie.close (tie.spec returns returns_2 returns_3)

@@ -4,11 +4,11 @@ use borrow.Author.Rules.{rules}
 use Rattle.admission.proofs.table.no_table.Statement.{statement}
 use Rattle.admission.proofs.table.no_table.Tie as tie
 
-mul-result : tie.Need-overflow-mul-result
-mul-result c = search rules
+mul_result : tie.Need-overflow-mul-result
+mul_result c = search rules
 
 returns : tie.Need-returns
 returns c = refl
 
-pub no-table-spec : {M : Type 1} → statement M
-no-table-spec = tie.close (tie.spec mul-result returns)
+pub no_table_spec : {M : Type 1} → statement M
+no_table_spec = tie.close (tie.spec mul_result returns)

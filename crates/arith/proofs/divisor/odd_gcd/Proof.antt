@@ -7,9 +7,9 @@ use native.Mathlib.Omega.{arith}
 use borrow.Author.Rules.{rules}
 use Rattle.arith.specs.Bits.{halvings}
 use Rattle.arith.specs.Divisor.{gcd}
-use Rattle.arith.proofs.Euclid.{gcd-zero}
-use Rattle.arith.proofs.Halving.{gcd-comm, gcd-one, gcd-half, gcd-odd}
-use Rattle.arith.proofs.Bits.{half-fewer}
+use Rattle.arith.proofs.Euclid.{gcd_zero}
+use Rattle.arith.proofs.Halving.{gcd_comm, gcd_one, gcd_half, gcd_odd}
+use Rattle.arith.proofs.Bits.{half_fewer}
 use Rattle.arith.proofs.divisor.odd_gcd.Statement.{statement}
 use Rattle.arith.proofs.divisor.odd_gcd.Tie as tie
 
@@ -26,15 +26,15 @@ data Turn (x y : ℕ) : ℕ → ℕ → Type 0 where
 
 -- it keeps what stays
 stays : {odd other x y u v : ℕ} → Stays odd other x y → Turn x y u v → Stays odd other u (v / 2)
-stays {odd} {other} {x} {y} s (even e) = record { first = s.first; same = gcd-half x y s.first e ∙ s.same }
-stays {odd} {other} {x} {y} s (larger o h) = record { first = s.first; same = gcd-odd x y s.first o h ∙ s.same }
-stays {odd} {other} {x} {y} s (smaller o h) = record { first = o; same = gcd-odd y x o s.first h ∙ gcd-comm y x ∙ s.same }
+stays {odd} {other} {x} {y} s (even e) = record { first = s.first; same = gcd_half x y s.first e ∙ s.same }
+stays {odd} {other} {x} {y} s (larger o h) = record { first = s.first; same = gcd_odd x y s.first o h ∙ s.same }
+stays {odd} {other} {x} {y} s (smaller o h) = record { first = o; same = gcd_odd y x o s.first h ∙ gcd_comm y x ∙ s.same }
 
 -- and takes a bit off
 fewer : {x y u v : ℕ} → x % 2 ≡ 1 → 0 < y → Turn x y u v → halvings u (v / 2) < halvings x y
-fewer {x} {y} o p (even e) = omega (arith, half-fewer y y (le_refl y) p)
-fewer {x} {y} o p (larger q h) = omega (arith, half-fewer (y - x) y (sub-le y x) p)
-fewer {x} {y} o p (smaller q h) = omega (arith, half-fewer (x - y) x (sub-le x y) (omega arith))
+fewer {x} {y} o p (even e) = omega (arith, half_fewer y y (le_refl y) p)
+fewer {x} {y} o p (larger q h) = omega (arith, half_fewer (y - x) y (sub-le y x) p)
+fewer {x} {y} o p (smaller q h) = omega (arith, half_fewer (x - y) x (sub-le x y) (omega arith))
 
 abbrev invariant-loop : tie.invariant-loop
 invariant-loop odd other kept₀ rest₀ kept rest = Stays odd other kept rest
@@ -50,24 +50,24 @@ made c =
     c.if2.branch
 
 returns : tie.Need-returns invariant-loop decreases-loop
-returns c = rw c.if1.true (sym (gcd-one c.before.args.other))
+returns c = rw c.if1.true (sym (gcd_one c.before.args.other))
 
-loop-holds : tie.Need-loop-init invariant-loop decreases-loop
-loop-holds c = record { first = c.before.requires; same = refl }
+loop_holds : tie.Need-loop-init invariant-loop decreases-loop
+loop_holds c = record { first = c.before.requires; same = refl }
 
 sub-rest : tie.Need-overflow-sub-rest invariant-loop decreases-loop
 sub-rest c = search rules
 
-loop-less : tie.Need-loop-smaller invariant-loop decreases-loop
-loop-less c =
+loop_less : tie.Need-loop-smaller invariant-loop decreases-loop
+loop_less c =
     fewer c.before.before.before.loop.invariant.first (pos_of_ne-zero c.before.before.loop-test.true) (made c.before)
 
-loop-again : tie.Need-loop-preserved invariant-loop decreases-loop
-loop-again c = stays c.before.before.before.loop.invariant (made c.before)
+loop_again : tie.Need-loop-preserved invariant-loop decreases-loop
+loop_again c = stays c.before.before.before.loop.invariant (made c.before)
 
-returns-2 : tie.Need-returns-2 invariant-loop decreases-loop
-returns-2 c = sym (gcd-zero c.before.loop.auto) ∙ (rw c.loop-test.false at c.before.loop.invariant.same)
+returns_2 : tie.Need-returns-2 invariant-loop decreases-loop
+returns_2 c = sym (gcd_zero c.before.loop.auto) ∙ (rw c.loop-test.false at c.before.loop.invariant.same)
 
-pub odd-gcd-spec : {M : Type 1} → statement M
-odd-gcd-spec =
-    tie.close (tie.spec invariant-loop decreases-loop returns loop-holds sub-rest loop-less loop-again returns-2)
+pub odd_gcd_spec : {M : Type 1} → statement M
+odd_gcd_spec =
+    tie.close (tie.spec invariant-loop decreases-loop returns loop_holds sub-rest loop_less loop_again returns_2)

@@ -1,13 +1,13 @@
 -- `calls_text::line::read_finish` meets its contract.
 use mathlib.Core.Path.{sym, ap, ◌∙◌}
 use Rattle.dispatch.specs.declared.call.Call.TheVariants.{Finish}
-use Rattle.calls_text.specs.Line.{asCall}
+use Rattle.calls_text.specs.Line.{as_call}
 use borrow.Author.Rules.{rules}
 use Rattle.calls_text.proofs.line.read_finish.Statement.{statement}
 use Rattle.calls_text.proofs.line.read_finish.Tie as tie
 
-read-pair-requires : tie.Need-read-pair-requires
-read-pair-requires c κs = search rules
+read_pair_requires : tie.Need-read-pair-requires
+read_pair_requires c κs = search rules
 
 enum_told : tie.Need-enum-told
 enum_told c = search rules
@@ -16,12 +16,12 @@ enum-known-i : tie.Need-enum-known-i
 enum-known-i c = search rules
 
 returns : tie.Need-returns
-unfolding asCall
-returns c = sym (ap (asCall Finish) (sym c.before.before.read-pair.ensures ∙ c.enum_told.given.1))
+unfolding as_call
+returns c = sym (ap (as_call Finish) (sym c.before.before.read_pair_lem.ensures ∙ c.enum_told.given.1))
 
-returns-2 : tie.Need-returns-2
-unfolding asCall
-returns-2 c = sym (ap (asCall Finish) (sym c.before.before.before.read-pair.ensures ∙ c.before.i.given.1))
+returns_2 : tie.Need-returns-2
+unfolding as_call
+returns_2 c = sym (ap (as_call Finish) (sym c.before.before.before.read_pair_lem.ensures ∙ c.before.i.given.1))
 
-pub read-finish-spec : {M : Type 1} → statement M
-read-finish-spec = tie.close (tie.spec read-pair-requires enum_told enum-known-i returns returns-2)
+pub read_finish_spec : {M : Type 1} → statement M
+read_finish_spec = tie.close (tie.spec read_pair_requires enum_told enum-known-i returns returns_2)

@@ -1,33 +1,33 @@
 -- `day_text::line::read_arrival` meets its contract.
 use mathlib.Core.Path.{sym, ap, ◌∙◌}
-use Rattle.day_text.specs.Line.{fromTime, arrivalLine}
+use Rattle.day_text.specs.Line.{from_time, arrival_line}
 use borrow.Author.Rules.{rules}
 use Rattle.day_text.proofs.line.read_arrival.Statement.{statement}
 use Rattle.day_text.proofs.line.read_arrival.Tie as tie
 
-read-field-requires : tie.Need-read-field-requires
-read-field-requires c κs = search rules
+read_field_requires : tie.Need-read-field-requires
+read_field_requires c κs = search rules
 
 enum_told : tie.Need-enum-told
 enum_told c = search rules
 
-enum-known-time : tie.Need-enum-known-time
-enum-known-time c = search rules
+enum_known_time : tie.Need-enum-known-time
+enum_known_time c = search rules
 
 read-rest-requires : tie.Need-read-rest-requires
 read-rest-requires c κs = search rules
 
 returns : tie.Need-returns
-unfolding fromTime arrivalLine
-returns c = sym (ap (fromTime _) (sym c.before.before.read-field.ensures ∙ c.enum_told.given.1))
+unfolding from_time arrival_line
+returns c = sym (ap (from_time _) (sym c.before.before.read_field_lem.ensures ∙ c.enum_told.given.1))
 
-returns-2 : tie.Need-returns-2
-unfolding fromTime arrivalLine
-returns-2 c =
+returns_2 : tie.Need-returns-2
+unfolding from_time arrival_line
+returns_2 c =
     let k = c.before in
-    c.read-rest.ensures ∙ sym (ap (fromTime _) (sym k.before.before.before.read-field.ensures ∙ k.before.time.given.1))
+    c.read-rest.ensures ∙ sym (ap (from_time _) (sym k.before.before.before.read_field_lem.ensures ∙ k.before.time.given.1))
 
-pub read-arrival-spec : {M : Type 1} → statement M
-read-arrival-spec =
+pub read_arrival_spec : {M : Type 1} → statement M
+read_arrival_spec =
     tie.close
-    (tie.spec read-field-requires enum_told enum-known-time read-rest-requires returns returns-2)
+    (tie.spec read_field_requires enum_told enum_known_time read-rest-requires returns returns_2)

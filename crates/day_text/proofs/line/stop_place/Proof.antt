@@ -13,11 +13,11 @@ invariant-loop text at₀ at = Seeking text at
 abbrev decreases-loop : tie.decreases-loop
 decreases-loop text at₀ at = length text - at
 
-loop-holds : tie.Need-loop-init invariant-loop decreases-loop
-loop-holds c = first _
+loop_holds : tie.Need-loop-init invariant-loop decreases-loop
+loop_holds c = first _
 
-stop-here-requires : tie.Need-stop-here-requires invariant-loop decreases-loop
-stop-here-requires c κs = search rules
+stop_here_requires : tie.Need-stop-here-requires invariant-loop decreases-loop
+stop_here_requires c κs = search rules
 
 returns : tie.Need-returns invariant-loop decreases-loop
 returns c =
@@ -27,27 +27,27 @@ returns c =
 add_at : tie.Need-overflow-add-at invariant-loop decreases-loop
 add_at c = search rules
 
-loop-less : tie.Need-loop-smaller invariant-loop decreases-loop
-loop-less c = search rules
+loop_less : tie.Need-loop-smaller invariant-loop decreases-loop
+loop_less c = search rules
 
-loop-again : tie.Need-loop-preserved invariant-loop decreases-loop
-loop-again c =
+loop_again : tie.Need-loop-preserved invariant-loop decreases-loop
+loop_again c =
     let l = c.before.before.before in
     passed _ _ l.loop.invariant c.before.before.loop-test.true (sym c.before.stop-here.ensures ∙ c.if1.false)
 
-returns-2 : tie.Need-returns-2 invariant-loop decreases-loop
-returns-2 c = (none _ _ c.before.loop.invariant c.loop-test.false, c.before.loop.invariant.within)
+returns_2 : tie.Need-returns-2 invariant-loop decreases-loop
+returns_2 c = (none _ _ c.before.loop.invariant c.loop-test.false, c.before.loop.invariant.within)
 
-pub stop-place-spec : {M : Type 1} → statement M
-stop-place-spec =
+pub stop_place_spec : {M : Type 1} → statement M
+stop_place_spec =
     tie.close
     (tie.spec
     invariant-loop
     decreases-loop
-    loop-holds
-    stop-here-requires
+    loop_holds
+    stop_here_requires
     returns
     add_at
-    loop-less
-    loop-again
-    returns-2)
+    loop_less
+    loop_again
+    returns_2)

@@ -1,6 +1,6 @@
 -- `dispatch::Record::release` meets its contract.
 use mathlib.Core.Path.{◌∙◌}
-use Rattle.dispatch.proofs.Answers.{release-or-zeros}
+use Rattle.dispatch.proofs.Answers.{release_or_zeros}
 use borrow.Author.Rules.{rules}
 use Rattle.dispatch.proofs.Record.release.Statement.{statement}
 use Rattle.dispatch.proofs.Record.release.Tie as tie
@@ -11,7 +11,7 @@ release-or-requires c κs = search rules
 returns : tie.Need-returns
 returns c =
     let s = c.before.args in
-    c.release-or.ensures ∙ release-or-zeros s.self s.task s.time.0
+    c.release_or_lem.ensures ∙ release_or_zeros s.self s.task s.time.0
 
 pub release_spec : {M : Type 1} → statement M
 release_spec = tie.close (tie.spec release-or-requires returns)

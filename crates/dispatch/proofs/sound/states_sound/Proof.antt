@@ -1,10 +1,10 @@
 -- `dispatch::sound::states_sound` meets its contract.
 use borrow.Author.Rules.{rules}
 use borrow.Author.Tests.{not-true, not-false}
-use Rattle.dispatch.specs.Sound.{stateOk}
-use Rattle.lists.proofs.Below.{all_none, all_more, all-fails}
+use Rattle.dispatch.specs.Sound.{state_ok}
+use Rattle.lists.proofs.Below.{all_none, all_more, all_fails}
 use Rattle.lists.specs.Below.{all_below}
-use Rattle.units.specs.Limits.{tasksLimit}
+use Rattle.units.specs.Limits.{tasks_limit}
 use native.Mathlib.Omega.{arith}
 use mathlib.Core.Bool.{true}
 use mathlib.Core.Path.{◌≡◌, sym, ◌∙◌}
@@ -13,68 +13,68 @@ use Rattle.dispatch.proofs.sound.states_sound.Statement.{statement}
 use Rattle.dispatch.proofs.sound.states_sound.Tie as tie
 
 abbrev invariant-loop : tie.invariant-loop
-invariant-loop plan states count i₀ i = (i ≤ tasksLimit) × (all_below i (stateOk plan states) ≡ true)
+invariant-loop plan states count i₀ i = (i ≤ tasks_limit) × (all_below i (state_ok plan states) ≡ true)
 
 abbrev decreases-loop : tie.decreases-loop
-decreases-loop plan states count i₀ i = tasksLimit - i
+decreases-loop plan states count i₀ i = tasks_limit - i
 
-loop-holds : tie.Need-loop-init invariant-loop decreases-loop
-loop-holds c = (omega arith, all_none (stateOk c.args.t1 c.args.t2))
+loop_holds : tie.Need-loop-init invariant-loop decreases-loop
+loop_holds c = (omega arith, all_none (state_ok c.args.t1 c.args.t2))
 
-mul-line : tie.Need-overflow-mul-line invariant-loop decreases-loop
-mul-line c = omega arith
+mul_line : tie.Need-overflow-mul-line invariant-loop decreases-loop
+mul_line c = omega arith
 
-element-copy-out-line : tie.Need-element-copy-out-line invariant-loop decreases-loop
-element-copy-out-line c = omega arith
+element_copy_out_line : tie.Need-element-copy-out-line invariant-loop decreases-loop
+element_copy_out_line c = omega arith
 
-mul-state : tie.Need-overflow-mul-state invariant-loop decreases-loop
-mul-state c = omega arith
+mul_state : tie.Need-overflow-mul-state invariant-loop decreases-loop
+mul_state c = omega arith
 
-array-copy-out-state : tie.Need-array-copy-out-state invariant-loop decreases-loop
-array-copy-out-state c = omega arith
+array_copy_out_state : tie.Need-array-copy-out-state invariant-loop decreases-loop
+array_copy_out_state c = omega arith
 
-state-ok-requires : tie.Need-state-ok-requires invariant-loop decreases-loop
-state-ok-requires c κs = search rules
+state_ok_requires : tie.Need-state-ok-requires invariant-loop decreases-loop
+state_ok_requires c κs = search rules
 
 returns : tie.Need-returns invariant-loop decreases-loop
 returns c =
     let s = c.before.before.before.before.before.before.args in
     let i = c.before.before.before.before.before.loop.i in
-    let fails = sym c.before.state-ok.ensures ∙ not-true c.before.state-ok.result c.if1.true in
-    sym (all-fails tasksLimit i (stateOk s.t1 s.t2) (omega arith) fails)
+    let fails = sym c.before.state_ok_lem.ensures ∙ not-true c.before.state_ok_lem.result c.if1.true in
+    sym (all_fails tasks_limit i (state_ok s.t1 s.t2) (omega arith) fails)
 
-add-i : tie.Need-overflow-add-i invariant-loop decreases-loop
-add-i c = omega arith
+add_i : tie.Need-overflow-add-i invariant-loop decreases-loop
+add_i c = omega arith
 
-loop-less : tie.Need-loop-smaller invariant-loop decreases-loop
-loop-less c = omega arith
+loop_less : tie.Need-loop-smaller invariant-loop decreases-loop
+loop_less c = omega arith
 
-loop-again : tie.Need-loop-preserved invariant-loop decreases-loop
-loop-again c =
+loop_again : tie.Need-loop-preserved invariant-loop decreases-loop
+loop_again c =
     let s = c.before.before.before.before.before.before.args in
     let at = c.before.before.before.before.before.loop in
-    let holds = sym c.before.state-ok.ensures ∙ not-false c.before.state-ok.result c.if1.false in
-    (omega arith, all_more at.i (stateOk s.t1 s.t2) at.invariant.1 holds)
+    let holds = sym c.before.state_ok_lem.ensures ∙ not-false c.before.state_ok_lem.result c.if1.false in
+    (omega arith, all_more at.i (state_ok s.t1 s.t2) at.invariant.1 holds)
 
-returns-2 : tie.Need-returns-2 invariant-loop decreases-loop
-returns-2 c =
-    let e : c.before.loop.i ≡ tasksLimit = omega arith in
+returns_2 : tie.Need-returns-2 invariant-loop decreases-loop
+returns_2 c =
+    let e : c.before.loop.i ≡ tasks_limit = omega arith in
     sym (rw e at c.before.loop.invariant.1)
 
-pub states-sound-spec : {M : Type 1} → statement M
-states-sound-spec =
+pub states_sound_spec : {M : Type 1} → statement M
+states_sound_spec =
     tie.close
     (tie.spec
     invariant-loop
     decreases-loop
-    loop-holds
-    mul-line
-    element-copy-out-line
-    mul-state
-    array-copy-out-state
-    state-ok-requires
+    loop_holds
+    mul_line
+    element_copy_out_line
+    mul_state
+    array_copy_out_state
+    state_ok_requires
     returns
-    add-i
-    loop-less
-    loop-again
-    returns-2)
+    add_i
+    loop_less
+    loop_again
+    returns_2)

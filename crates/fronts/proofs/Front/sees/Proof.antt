@@ -6,5 +6,5 @@ use Rattle.fronts.proofs.Front.sees.Tie as tie
 returns : tie.Need-returns
 returns c = refl
 
-pub sees-spec : {M : Type 1} → statement M
-sees-spec = tie.close (tie.spec returns)
+pub sees_spec : {M : Type 1} → statement M
+sees_spec = tie.close (tie.spec returns)

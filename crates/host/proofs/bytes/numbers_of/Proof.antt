@@ -14,29 +14,29 @@ invariant-loop bytes n numbers₀ k₀ numbers k = (n ≡ length bytes / 4) × (
 abbrev decreases-loop : tie.decreases-loop
 decreases-loop bytes n numbers₀ k₀ numbers k = n - k
 
-loop-holds : tie.Need-loop-init invariant-loop decreases-loop
-loop-holds c = (refl, omega arith, start c.before.args.bytes.now)
+loop_holds : tie.Need-loop-init invariant-loop decreases-loop
+loop_holds c = (refl, omega arith, start c.before.args.bytes.now)
 
-mul-number32 : tie.Need-overflow-mul-number32 invariant-loop decreases-loop
-mul-number32 c = search rules
+mul_number32 : tie.Need-overflow-mul-number32 invariant-loop decreases-loop
+mul_number32 c = search rules
 
-number32-requires : tie.Need-number32-requires invariant-loop decreases-loop
-number32-requires c κs = search rules
+number32_requires : tie.Need-number32-requires invariant-loop decreases-loop
+number32_requires c κs = search rules
 
-mul-numbers : tie.Need-overflow-mul-numbers invariant-loop decreases-loop
-mul-numbers c = search rules
+mul_numbers : tie.Need-overflow-mul-numbers invariant-loop decreases-loop
+mul_numbers c = search rules
 
-array-write-numbers : tie.Need-array-write-numbers invariant-loop decreases-loop
-array-write-numbers c = search rules
+array_write_numbers : tie.Need-array-write-numbers invariant-loop decreases-loop
+array_write_numbers c = search rules
 
-add-k : tie.Need-overflow-add-k invariant-loop decreases-loop
-add-k c = search rules
+add_k : tie.Need-overflow-add-k invariant-loop decreases-loop
+add_k c = search rules
 
-loop-less : tie.Need-loop-smaller invariant-loop decreases-loop
-loop-less c = search rules
+loop_less : tie.Need-loop-smaller invariant-loop decreases-loop
+loop_less c = search rules
 
-loop-again : tie.Need-loop-preserved invariant-loop decreases-loop
-loop-again c =
+loop_again : tie.Need-loop-preserved invariant-loop decreases-loop
+loop_again c =
     let l = c.before.before.loop in
     let s = c.before.before.before.before in (
       refl,
@@ -51,18 +51,18 @@ returns c =
     let s = c.before.before.before in
     finish s.args.bytes.now l.numbers l.k l.invariant.2 (omega arith) (omega (arith, s.requires))
 
-pub numbers-of-spec : {M : Type 1} → statement M
-numbers-of-spec =
+pub numbers_of_spec : {M : Type 1} → statement M
+numbers_of_spec =
     tie.close
     (tie.spec
     invariant-loop
     decreases-loop
-    loop-holds
-    mul-number32
-    number32-requires
-    mul-numbers
-    array-write-numbers
-    add-k
-    loop-less
-    loop-again
+    loop_holds
+    mul_number32
+    number32_requires
+    mul_numbers
+    array_write_numbers
+    add_k
+    loop_less
+    loop_again
     returns)

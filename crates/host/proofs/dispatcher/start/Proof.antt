@@ -2,8 +2,8 @@
 use mathlib.Core.Path.{◌≡◌, ap, ◌∙◌}
 use Rattle.dispatch.specs.Record.{fresh_of}
 use Rattle.host.specs.Inner.{held_of}
-use Rattle.host.proofs.Held.{part-within, part}
-use Rattle.host.proofs.Started.{start-taken, start-refused}
+use Rattle.host.proofs.Held.{part_within, part}
+use Rattle.host.proofs.Started.{start_taken, start_refused}
 use borrow.Author.Rules.{rules}
 use Rattle.host.proofs.dispatcher.start.Statement.{statement}
 use Rattle.host.proofs.dispatcher.start.Tie as tie
@@ -18,43 +18,43 @@ planned c =
     let s = t.before.before.args in
     c.fresh.ensures ∙ ap (fresh_of s.cores) (part s.table.now t.table_of.result t.table_of.ensures)
 
-table-of-requires : tie.Need-table-of-requires
-table-of-requires c κs = search rules
+table_of_requires : tie.Need-table-of-requires
+table_of_requires c κs = search rules
 
-sub-fresh : tie.Need-overflow-sub-fresh
-sub-fresh c = search rules
+sub_fresh : tie.Need-overflow-sub-fresh
+sub_fresh c = search rules
 
-part-fresh-start : tie.Need-slice-bounds-fresh-start
-part-fresh-start c = search rules
+part_fresh_start : tie.Need-slice-bounds-fresh-start
+part_fresh_start c = search rules
 
-part-fresh-end : tie.Need-slice-bounds-fresh-end
-part-fresh-end c =
+part_fresh_end : tie.Need-slice-bounds-fresh-end
+part_fresh_end c =
     let t = c.before.before in
-    part-within t.before.before.args.table.now t.table_of.result t.table_of.ensures
+    part_within t.before.before.args.table.now t.table_of.result t.table_of.ensures
 
-fresh-requires : tie.Need-fresh-requires
-fresh-requires c κs = search rules
+fresh_requires : tie.Need-fresh-requires
+fresh_requires c κs = search rules
 
 returns : tie.Need-returns
 returns c =
     let k = c.before.before.before.before in
     let s = k.before.before.before.before.before.before.args in
-    start-taken s.held s.cores s.table.now (planned k) c.before.if1.true
+    start_taken s.held s.cores s.table.now (planned k) c.before.if1.true
 
-returns-2 : tie.Need-returns-2
-returns-2 c =
+returns_2 : tie.Need-returns-2
+returns_2 c =
     let k = c.before.before.before in
     let s = k.before.before.before.before.before.before.args in
-    start-refused s.held s.cores s.table.now (planned k) c.if1.false
+    start_refused s.held s.cores s.table.now (planned k) c.if1.false
 
 pub start_spec : {M : Type 1} → statement M
 start_spec =
     tie.close
     (tie.spec
-    table-of-requires
-    sub-fresh
-    part-fresh-start
-    part-fresh-end
-    fresh-requires
+    table_of_requires
+    sub_fresh
+    part_fresh_start
+    part_fresh_end
+    fresh_requires
     returns
-    returns-2)
+    returns_2)

@@ -11,8 +11,8 @@ use Rattle.instants.specs.Seen.{better}
 use Rattle.instants.proofs.Seen.better.Statement.{statement}
 use Rattle.instants.proofs.Seen.better.Tie as tie
 
-sub-left : tie.Need-overflow-sub-left
-sub-left c = search rules
+sub_left : tie.Need-overflow-sub-left
+sub_left c = search rules
 
 -- the first task or one with a lower key is chosen, with what it has left to run; and else it stays
 module _ (b : Seen) (i : ℕ) (f : Front) (h : ℕ) where
@@ -29,14 +29,14 @@ returns c =
     let s = k.before.before.before.before.args in
     chosen s.self s.task s.front s.had k.if1.true refl
 
-returns-2 : tie.Need-returns-2
-returns-2 c =
+returns_2 : tie.Need-returns-2
+returns_2 c =
     let k = c.before.before in
     let s = k.before.before.before.before.args in
     chosen s.self s.task s.front s.had k.if1.true (omega (arith, c.if2.false))
 
-returns-3 : tie.Need-returns-3
-returns-3 c = let s = c.before.before.before.before.args in kept s.self s.task s.front s.had c.if1.false
+returns_3 : tie.Need-returns-3
+returns_3 c = let s = c.before.before.before.before.args in kept s.self s.task s.front s.had c.if1.false
 
-pub better-spec : {M : Type 1} → statement M
-better-spec = tie.close (tie.spec sub-left returns returns-2 returns-3)
+pub better_spec : {M : Type 1} → statement M
+better_spec = tie.close (tie.spec sub_left returns returns_2 returns_3)

@@ -6,8 +6,8 @@ use borrow.Author.Rules.{rules}
 use Rattle.lateness.proofs.bounds.at.Statement.{statement}
 use Rattle.lateness.proofs.bounds.at.Tie as tie
 
-mul-result : tie.Need-overflow-mul-result
-mul-result c = search rules
+mul_result : tie.Need-overflow-mul-result
+mul_result c = search rules
 
 element-copy-out-result : tie.Need-element-copy-out-result
 element-copy-out-result c = search rules
@@ -15,10 +15,10 @@ element-copy-out-result c = search rules
 returns : tie.Need-returns
 returns c = search rules
 
-returns-2 : tie.Need-returns-2
-returns-2 c =
+returns_2 : tie.Need-returns-2
+returns_2 c =
     let a = c.before.args in
     sym (get_or-eq_default a.numbers.now 0 {n = a.p} (omega arith))
 
-pub at-spec : {M : Type 1} → statement M
-at-spec = tie.close (tie.spec mul-result element-copy-out-result returns returns-2)
+pub at_spec : {M : Type 1} → statement M
+at_spec = tie.close (tie.spec mul_result element-copy-out-result returns returns_2)

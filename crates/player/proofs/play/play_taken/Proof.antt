@@ -5,11 +5,11 @@ use borrow.Author.Rules.{rules}
 use Rattle.player.proofs.play.play_taken.Statement.{statement}
 use Rattle.player.proofs.play.play_taken.Tie as tie
 
-fresh-requires : tie.Need-fresh-requires
-fresh-requires c κs = search rules
+fresh_requires : tie.Need-fresh-requires
+fresh_requires c κs = search rules
 
-put-refusal-requires : tie.Need-put-refusal-requires
-put-refusal-requires c κs = search rules
+put_refusal_requires : tie.Need-put-refusal-requires
+put_refusal_requires c κs = search rules
 
 same_length : tie.Need-same-length
 same_length c = search rules
@@ -19,29 +19,29 @@ returns c =
     let p = c.before.before in
     let i = p.before.before in
     let e = i.before.before.before.fresh.ensures in
-    (recast (refused _ _ _ _ e i.if1.true) p.put-refusal.ensures.0, search rules)
+    (recast (refused _ _ _ _ e i.if1.true) p.put_refusal_lem.ensures.0, search rules)
 
-play-calls-requires : tie.Need-play-calls-requires
-play-calls-requires c κs = search rules
+play_calls_requires : tie.Need-play-calls-requires
+play_calls_requires c κs = search rules
 
-same-length-2 : tie.Need-same-length-2
-same-length-2 c = search rules
+same_length_2 : tie.Need-same-length-2
+same_length_2 c = search rules
 
-returns-2 : tie.Need-returns-2
-returns-2 c =
+returns_2 : tie.Need-returns-2
+returns_2 c =
     let p = c.before.before in
     let i = p.before.before.before in
     let e = i.before.before.before.fresh.ensures in
     (recast (taken _ _ _ _ e i.if1.false) p.play-calls.ensures.0, search rules)
 
-pub play-taken-spec : {M : Type 1} → statement M
-play-taken-spec =
+pub play_taken_spec : {M : Type 1} → statement M
+play_taken_spec =
     tie.close
     (tie.spec
-    fresh-requires
-    put-refusal-requires
+    fresh_requires
+    put_refusal_requires
     same_length
     returns
-    play-calls-requires
-    same-length-2
-    returns-2)
+    play_calls_requires
+    same_length_2
+    returns_2)

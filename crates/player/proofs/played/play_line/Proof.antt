@@ -1,17 +1,17 @@
 -- `player::played::play_line` meets its contract.
-use Rattle.player.proofs.Plays.{line-called, line-none}
+use Rattle.player.proofs.Plays.{line_called, line_none}
 use borrow.Author.Rules.{rules}
 use Rattle.player.proofs.played.play_line.Statement.{statement}
 use Rattle.player.proofs.played.play_line.Tie as tie
 
-enum-known-line : tie.Need-enum-known-line
-enum-known-line c = search rules
+enum_known_line : tie.Need-enum-known-line
+enum_known_line c = search rules
 
-call-requires : tie.Need-call-requires
-call-requires c κs = search rules
+call_requires : tie.Need-call-requires
+call_requires c κs = search rules
 
-put-answer-requires : tie.Need-put-answer-requires
-put-answer-requires c κs = search rules
+put_answer_requires : tie.Need-put-answer-requires
+put_answer_requires c κs = search rules
 
 enum_told : tie.Need-enum-told
 enum_told c = search rules
@@ -23,22 +23,22 @@ returns : tie.Need-returns
 returns c =
     let p = c.before.before.before in
     let a = c.before.before.before.before.before in
-    let l = line-called _ a.before.before.line.given.1 a.call.ensures p.put-answer.ensures.0 in
+    let l = line_called _ a.before.before.line.given.1 a.call.ensures p.put-answer.ensures.0 in
     (l.0, (l.1, search rules))
 
-returns-2 : tie.Need-returns-2
-returns-2 c =
-    let l = line-none _ _ _ c.enum_told.given.1 in
+returns_2 : tie.Need-returns-2
+returns_2 c =
+    let l = line_none _ _ _ c.enum_told.given.1 in
     (l.0, (l.1, search rules))
 
-pub play-line-spec : {M : Type 1} → statement M
-play-line-spec =
+pub play_line_spec : {M : Type 1} → statement M
+play_line_spec =
     tie.close
     (tie.spec
-    enum-known-line
-    call-requires
-    put-answer-requires
+    enum_known_line
+    call_requires
+    put_answer_requires
     enum_told
     same_length
     returns
-    returns-2)
+    returns_2)

@@ -1,15 +1,15 @@
 -- `rehearsal::steps::fresh_desk` meets its contract.
 use mathlib.Core.Path.{refl}
-use Rattle.task_state.specs.State.{freshState}
-use Rattle.run_lengths.specs.Work.{freshWork}
-use Rattle.seats.specs.Seat.{freshSeat}
-use Rattle.rehearsal.specs.Desk.{freshDesk}
+use Rattle.task_state.specs.State.{fresh_state}
+use Rattle.run_lengths.specs.Work.{fresh_work}
+use Rattle.seats.specs.Seat.{fresh_seat}
+use Rattle.rehearsal.specs.Desk.{fresh_desk}
 use Rattle.rehearsal.proofs.steps.fresh_desk.Statement.{statement}
 use Rattle.rehearsal.proofs.steps.fresh_desk.Tie as tie
 
 returns : tie.Need-returns
-unfolding freshDesk freshSeat freshState freshWork
+unfolding fresh_desk fresh_seat fresh_state fresh_work
 returns c = refl
 
-pub fresh-desk-spec : {M : Type 1} → statement M
-fresh-desk-spec = tie.close (tie.spec returns)
+pub fresh_desk_spec : {M : Type 1} → statement M
+fresh_desk_spec = tie.close (tie.spec returns)

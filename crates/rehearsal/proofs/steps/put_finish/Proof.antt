@@ -12,8 +12,8 @@ use Rattle.rehearsal.proofs.steps.put_finish.Statement.{statement}
 use Rattle.rehearsal.proofs.steps.put_finish.Tie as tie
 
 -- src/steps.rt:84:5
-put-within-requires : tie.Need-put-within-requires
-put-within-requires c κs = search rules
+put_within_requires : tie.Need-put-within-requires
+put_within_requires c κs = search rules
 
 -- src/steps.rt:66:1
 same_length : tie.Need-same-length
@@ -26,7 +26,7 @@ returns c =
     let s = c.before.before.before.before.before.before.args in
     let f : SFits w64 s.ended.late = search rules in
     let ran : Ran = record { core = s.core; task = s.run.task; run = s.run.run } in
-    (told refl w.put-within.ensures.0 (ap (λ (z : ℤ). Finished ran s.time z) (to_z-of_z w64 s.ended.late f)), search rules)
+    (told refl w.put_within_lem.ensures.0 (ap (λ (z : ℤ). Finished ran s.time z) (to_z-of_z w64 s.ended.late f)), search rules)
 
-pub put-finish-spec : {M : Type 1} → statement M
-put-finish-spec = tie.close (tie.spec put-within-requires same_length returns)
+pub put_finish_spec : {M : Type 1} → statement M
+put_finish_spec = tie.close (tie.spec put_within_requires same_length returns)

@@ -4,7 +4,7 @@ use mathlib.Core.Path.{◌≡◌, refl}
 use borrow.Author.Rules.{rules}
 use lib.ListN.{set}
 use Rattle.run_lengths.specs.declared.Work.{Work}
-use Rattle.run_lengths.specs.Work.{withLength}
+use Rattle.run_lengths.specs.Work.{with_length}
 use Rattle.run_lengths.proofs.Work.with_run.Statement.{statement}
 use Rattle.run_lengths.proofs.Work.with_run.Tie as tie
 
@@ -15,12 +15,12 @@ element-write-work : tie.Need-element-write-work
 element-write-work c = search rules
 
 -- the length at its place, and nothing else
-placed : (wk : Work) (k n : ℕ) → ◌≡◌ {A = Work} (record { lengths = set wk.lengths k n; ended = wk.ended }) (withLength wk k n)
-unfolding withLength
+placed : (wk : Work) (k n : ℕ) → ◌≡◌ {A = Work} (record { lengths = set wk.lengths k n; ended = wk.ended }) (with_length wk k n)
+unfolding with_length
 placed wk k n = refl
 
 returns : tie.Need-returns
 returns c = let s = c.args in placed s.self s.at s.length
 
-pub with-run-spec : {M : Type 1} → statement M
-with-run-spec = tie.close (tie.spec mul-work element-write-work returns)
+pub with_run_spec : {M : Type 1} → statement M
+with_run_spec = tie.close (tie.spec mul-work element-write-work returns)

@@ -9,7 +9,7 @@ read-pair-by-requires c κs = search rules
 
 returns : tie.Need-returns
 unfolding pair_at
-returns c = c.read-pair-by.ensures
+returns c = c.read_pair_by_lem.ensures
 
-pub read-pair-spec : {M : Type 1} → statement M
-read-pair-spec = tie.close (tie.spec read-pair-by-requires returns)
+pub read_pair_spec : {M : Type 1} → statement M
+read_pair_spec = tie.close (tie.spec read-pair-by-requires returns)

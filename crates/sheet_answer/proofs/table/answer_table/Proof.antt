@@ -1,52 +1,52 @@
 -- `sheet_answer::table::answer_table` meets its contract.
 use native.Mathlib.Omega.{arith}
 use Rattle.writing.proofs.Wrote.{recast}
-use Rattle.sheet_answer.specs.Answers.{tableLines, tableText}
-use Rattle.sheet_answer.proofs.Answered.{listable, answer-no, answer-is}
+use Rattle.sheet_answer.specs.Answers.{table_lines, table_text}
+use Rattle.sheet_answer.proofs.Answered.{listable, answer_no, answer_is}
 use borrow.Author.Rules.{rules}
 use Rattle.sheet_answer.proofs.table.answer_table.Statement.{statement}
 use Rattle.sheet_answer.proofs.table.answer_table.Tie as tie
 
-read-input-requires : tie.Need-read-input-requires
-read-input-requires c κs = search rules
+read_input_requires : tie.Need-read-input-requires
+read_input_requires c κs = search rules
 
-put-refusal-requires : tie.Need-put-refusal-requires
-put-refusal-requires c κs = search rules
+put_refusal_requires : tie.Need-put-refusal-requires
+put_refusal_requires c κs = search rules
 
 same_length : tie.Need-same-length
 same_length c = search rules
 
 returns : tie.Need-returns
-unfolding tableText
+unfolding table_text
 returns c =
     let w = c.before.before in
     let i = w.before.before in
     let e = i.before.before.before.read-input.ensures in
-    (recast (answer-no tableLines e i.if1.true) w.put-refusal.ensures.0, omega (arith, w.put-refusal.ensures.1))
+    (recast (answer_no table_lines e i.if1.true) w.put_refusal_lem.ensures.0, omega (arith, w.put_refusal_lem.ensures.1))
 
-put-plan-requires : tie.Need-put-plan-requires
-put-plan-requires c κs =
+put_plan_requires : tie.Need-put-plan-requires
+put_plan_requires c κs =
     let i = c.before.before in
     (listable _ i.before.before.before.read-input.ensures i.if1.false).tasks
 
-same-length-2 : tie.Need-same-length-2
-same-length-2 c = search rules
+same_length_2 : tie.Need-same-length-2
+same_length_2 c = search rules
 
-returns-2 : tie.Need-returns-2
-unfolding tableText tableLines
-returns-2 c =
+returns_2 : tie.Need-returns-2
+unfolding table_text table_lines
+returns_2 c =
     let w = c.before.before in
     let i = w.before.before.before in
-    (recast (answer-is tableLines i.before.before.before.read-input.ensures i.if1.false) w.put-plan.ensures.0, w.put-plan.ensures.1)
+    (recast (answer_is table_lines i.before.before.before.read-input.ensures i.if1.false) w.put-plan.ensures.0, w.put-plan.ensures.1)
 
-pub answer-table-spec : {M : Type 1} → statement M
-answer-table-spec =
+pub answer_table_spec : {M : Type 1} → statement M
+answer_table_spec =
     tie.close
     (tie.spec
-    read-input-requires
-    put-refusal-requires
+    read_input_requires
+    put_refusal_requires
     same_length
     returns
-    put-plan-requires
-    same-length-2
-    returns-2)
+    put_plan_requires
+    same_length_2
+    returns_2)

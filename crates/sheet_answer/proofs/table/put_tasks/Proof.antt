@@ -14,28 +14,28 @@ invariant-loop buf₀ at lines count end₀ i₀ buf end i = Tabling lines count
 abbrev decreases-loop : tie.decreases-loop
 decreases-loop buf₀ at lines count end₀ i₀ buf end i = count - i
 
-loop-holds : tie.Need-loop-init invariant-loop decreases-loop
-loop-holds c = begun _ _ _ _
+loop_holds : tie.Need-loop-init invariant-loop decreases-loop
+loop_holds c = begun _ _ _ _
 
-mul-line : tie.Need-overflow-mul-line invariant-loop decreases-loop
-mul-line c = search rules
+mul_line : tie.Need-overflow-mul-line invariant-loop decreases-loop
+mul_line c = search rules
 
-array-copy-out-line : tie.Need-array-copy-out-line invariant-loop decreases-loop
-array-copy-out-line c = search rules
+array_copy_out_line : tie.Need-array-copy-out-line invariant-loop decreases-loop
+array_copy_out_line c = search rules
 
-put-task-requires : tie.Need-put-task-requires invariant-loop decreases-loop
-put-task-requires c κs =
+put_task_requires : tie.Need-put-task-requires invariant-loop decreases-loop
+put_task_requires c κs =
     let n = c.before.before.before.before in
     omega (arith, n.before.loop.invariant.short, n.loop-test.true)
 
-add-i : tie.Need-overflow-add-i invariant-loop decreases-loop
-add-i c = search rules
+add_i : tie.Need-overflow-add-i invariant-loop decreases-loop
+add_i c = search rules
 
-loop-less : tie.Need-loop-smaller invariant-loop decreases-loop
-loop-less c = search rules
+loop_less : tie.Need-loop-smaller invariant-loop decreases-loop
+loop_less c = search rules
 
-loop-again : tie.Need-loop-preserved invariant-loop decreases-loop
-loop-again c =
+loop_again : tie.Need-loop-preserved invariant-loop decreases-loop
+loop_again c =
     let w = c.before.before in
     let n = w.before.before.before.before.before in
     let f = n.before.before.before.before.requires.1 in
@@ -49,18 +49,18 @@ returns c =
     let l = c.before.loop.invariant in
     (ended l c.loop-test.false, omega (arith, l.short, l.within))
 
-pub put-tasks-spec : {M : Type 1} → statement M
-put-tasks-spec =
+pub put_tasks_spec : {M : Type 1} → statement M
+put_tasks_spec =
     tie.close
     (tie.spec
     invariant-loop
     decreases-loop
-    loop-holds
-    mul-line
-    array-copy-out-line
-    put-task-requires
-    add-i
-    loop-less
-    loop-again
+    loop_holds
+    mul_line
+    array_copy_out_line
+    put_task_requires
+    add_i
+    loop_less
+    loop_again
     same_length
     returns)

@@ -4,59 +4,59 @@ use native.Mathlib.Omega.{arith}
 use borrow.Author.Rules.{rules}
 use Rattle.names.proofs.Parts.{parted}
 use Rattle.writing.proofs.Wrote.{none, recast}
-use Rattle.sheet_text.proofs.Naming.{line-none, line-stored}
+use Rattle.sheet_text.proofs.Naming.{line_none, line_stored}
 use Rattle.sheet_text.proofs.job.put_name.Statement.{statement}
 use Rattle.sheet_text.proofs.job.put_name.Tie as tie
 
-name-end-requires : tie.Need-name-end-requires
-name-end-requires c κs = search rules
+name_end_requires : tie.Need-name-end-requires
+name_end_requires c κs = search rules
 
 returns : tie.Need-returns
-returns c = recast (line-none _ _ (sym c.before.name-end.ensures ∙ c.if1.true)) (none _ _)
+returns c = recast (line_none _ _ (sym c.before.name_end_lem.ensures ∙ c.if1.true)) (none _ _)
 
-sub-put-text : tie.Need-overflow-sub-put-text
-sub-put-text c = search rules
+sub_put_text : tie.Need-overflow-sub-put-text
+sub_put_text c = search rules
 
-sub-put-text-2 : tie.Need-overflow-sub-put-text-2
-sub-put-text-2 c = (parted _ _ _ _ (omega arith) c.before.before.name-end.ensures c.before.if1.false).from
+sub_put_text_2 : tie.Need-overflow-sub-put-text-2
+sub_put_text_2 c = (parted _ _ _ _ (omega arith) c.before.before.name_end_lem.ensures c.before.if1.false).from
 
-part-put-text-start : tie.Need-slice-bounds-put-text-start
-part-put-text-start c = (parted _ _ _ _ (omega arith) c.before.before.name-end.ensures c.before.if1.false).from
+part_put_text_start : tie.Need-slice-bounds-put-text-start
+part_put_text_start c = (parted _ _ _ _ (omega arith) c.before.before.name_end_lem.ensures c.before.if1.false).from
 
-part-put-text-end : tie.Need-slice-bounds-put-text-end
-part-put-text-end c = (parted _ _ _ _ (omega arith) c.before.before.name-end.ensures c.before.if1.false).to
+part_put_text_end : tie.Need-slice-bounds-put-text-end
+part_put_text_end c = (parted _ _ _ _ (omega arith) c.before.before.name_end_lem.ensures c.before.if1.false).to
 
-put-text-requires : tie.Need-put-text-requires
-put-text-requires c κs =
+put_text_requires : tie.Need-put-text-requires
+put_text_requires c κs =
     let n = c.before.before in
-    omega (arith, (parted _ _ _ _ (omega arith) n.before.name-end.ensures n.if1.false).few)
+    omega (arith, (parted _ _ _ _ (omega arith) n.before.name_end_lem.ensures n.if1.false).few)
 
-put-byte-requires : tie.Need-put-byte-requires
-put-byte-requires c κs =
+put_byte_requires : tie.Need-put-byte-requires
+put_byte_requires c κs =
     let t = c.before.before.before in
     let n = t.before.before.before in
-    omega (arith, (parted _ _ _ _ (omega arith) n.before.name-end.ensures n.if1.false).few, t.put-text.ensures.end)
+    omega (arith, (parted _ _ _ _ (omega arith) n.before.name_end_lem.ensures n.if1.false).few, t.put_text_lem.ensures.end)
 
 same_length : tie.Need-same-length
 same_length c = search rules
 
-returns-2 : tie.Need-returns-2
-returns-2 c =
+returns_2 : tie.Need-returns-2
+returns_2 c =
     let t = c.before.before.before.before.before.before in
     let n = t.before.before.before in
-    line-stored _ _ _ n.before.name-end.ensures n.if1.false t.put-text.ensures c.before.before.put_byte.ensures refl
+    line_stored _ _ _ n.before.name_end_lem.ensures n.if1.false t.put_text_lem.ensures c.before.before.put_byte.ensures refl
 
-pub put-name-spec : {M : Type 1} → statement M
-put-name-spec =
+pub put_name_spec : {M : Type 1} → statement M
+put_name_spec =
     tie.close
     (tie.spec
-    name-end-requires
+    name_end_requires
     returns
-    sub-put-text
-    sub-put-text-2
-    part-put-text-start
-    part-put-text-end
-    put-text-requires
-    put-byte-requires
+    sub_put_text
+    sub_put_text_2
+    part_put_text_start
+    part_put_text_end
+    put_text_requires
+    put_byte_requires
     same_length
-    returns-2)
+    returns_2)

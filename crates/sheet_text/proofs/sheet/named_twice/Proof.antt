@@ -2,45 +2,45 @@
 use native.Mathlib.Omega.{arith}
 use borrow.Author.Rules.{rules}
 use Rattle.writing.proofs.Wrote.{kept}
-use Rattle.sheet_text.proofs.Says.{names-fit, told}
+use Rattle.sheet_text.proofs.Says.{names_fit, told}
 use Rattle.sheet_text.proofs.sheet.named_twice.Statement.{statement}
 use Rattle.sheet_text.proofs.sheet.named_twice.Tie as tie
 
-slice-aggregate-put-names : tie.Need-slice-aggregate-put-names
-slice-aggregate-put-names c = search rules
+slice_aggregate_put_names : tie.Need-slice-aggregate-put-names
+slice_aggregate_put_names c = search rules
 
-put-names-requires : tie.Need-put-names-requires
-put-names-requires c κs = search rules
+put_names_requires : tie.Need-put-names-requires
+put_names_requires c κs = search rules
 
-sub-name-twice : tie.Need-overflow-sub-name-twice
-sub-name-twice c = search rules
+sub_name_twice : tie.Need-overflow-sub-name-twice
+sub_name_twice c = search rules
 
-part-name-twice-start : tie.Need-slice-bounds-name-twice-start
-part-name-twice-start c = search rules
+part_name_twice_start : tie.Need-slice-bounds-name-twice-start
+part_name_twice_start c = search rules
 
-part-name-twice-end : tie.Need-slice-bounds-name-twice-end
-part-name-twice-end c =
+part_name_twice_end : tie.Need-slice-bounds-name-twice-end
+part_name_twice_end c =
     let p = c.before.before in
     let s = p.before.before.before in
-    omega (arith, kept p.put-names.ensures, p.put-names.ensures.end, names-fit _ s.args.from s.requires.0 s.requires.1)
+    omega (arith, kept p.put_names_lem.ensures, p.put_names_lem.ensures.end, names_fit _ s.args.from s.requires.0 s.requires.1)
 
-name-twice-requires : tie.Need-name-twice-requires
-name-twice-requires c κs = search rules
+name_twice_requires : tie.Need-name-twice-requires
+name_twice_requires c κs = search rules
 
 returns : tie.Need-returns
 returns c =
     let p = c.before.before.before.before in
     let s = p.before.before.before in
-    told _ _ s.requires.0 s.requires.1 p.put-names.ensures (omega arith) c.name-twice.ensures
+    told _ _ s.requires.0 s.requires.1 p.put_names_lem.ensures (omega arith) c.name_twice_lem.ensures
 
-pub named-twice-spec : {M : Type 1} → statement M
-named-twice-spec =
+pub named_twice_spec : {M : Type 1} → statement M
+named_twice_spec =
     tie.close
     (tie.spec
-    slice-aggregate-put-names
-    put-names-requires
-    sub-name-twice
-    part-name-twice-start
-    part-name-twice-end
-    name-twice-requires
+    slice_aggregate_put_names
+    put_names_requires
+    sub_name_twice
+    part_name_twice_start
+    part_name_twice_end
+    name_twice_requires
     returns)

@@ -9,5 +9,5 @@ sum-of-requires c κs = search rules
 returns : tie.Need-returns
 returns c = rw c.before.before.before.sum_of.ensures
 
-pub line-empty-spec : {M : Type 1} → statement M
-line-empty-spec = tie.close (tie.spec sum-of-requires returns)
+pub line_empty_spec : {M : Type 1} → statement M
+line_empty_spec = tie.close (tie.spec sum-of-requires returns)

@@ -6,11 +6,11 @@ use Rattle.soundness.proofs.lines.shares_sum.Tie as tie
 sum-of-requires : tie.Need-sum-of-requires
 sum-of-requires c κs = search rules
 
-cast-result : tie.Need-overflow-cast-result
-cast-result c = search rules
+cast_result : tie.Need-overflow-cast-result
+cast_result c = search rules
 
 returns : tie.Need-returns
 returns c = rw c.before.sum_of.ensures
 
-pub shares-sum-spec : {M : Type 1} → statement M
-shares-sum-spec = tie.close (tie.spec sum-of-requires cast-result returns)
+pub shares_sum_spec : {M : Type 1} → statement M
+shares_sum_spec = tie.close (tie.spec sum-of-requires cast_result returns)

@@ -6,5 +6,5 @@ use Rattle.stored_runs.proofs.Run.placed.Tie as tie
 returns : tie.Need-returns
 returns c = refl
 
-pub placed-spec : {M : Type 1} → statement M
-placed-spec = tie.close (tie.spec returns)
+pub placed_spec : {M : Type 1} → statement M
+placed_spec = tie.close (tie.spec returns)

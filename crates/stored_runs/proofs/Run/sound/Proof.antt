@@ -6,5 +6,5 @@ use Rattle.stored_runs.proofs.Run.sound.Tie as tie
 returns : tie.Need-returns
 returns c = refl
 
-pub sound-spec : {M : Type 1} → statement M
-sound-spec = tie.close (tie.spec returns)
+pub sound_spec : {M : Type 1} → statement M
+sound_spec = tie.close (tie.spec returns)

@@ -6,5 +6,5 @@ use Rattle.task_shares.proofs.standing.moves_by.Tie as tie
 returns : tie.Need-returns
 returns c = refl
 
-pub moves-by-spec : {M : Type 1} → statement M
-moves-by-spec = tie.close (tie.spec returns)
+pub moves_by_spec : {M : Type 1} → statement M
+moves_by_spec = tie.close (tie.spec returns)

@@ -10,8 +10,8 @@ use Rattle.units.specs.Units.{duration}
 use Rattle.planning.specs.declared.Line.{Line}
 use Rattle.release_times.specs.Times.{held_at}
 use Rattle.task_state.specs.declared.State.{State}
-use Rattle.task_state.specs.Due.{dueAfter}
-use Rattle.task_state.specs.Key.{deadlineOf, waits}
+use Rattle.task_state.specs.Due.{due_after}
+use Rattle.task_state.specs.Key.{deadline_of, waits}
 use Rattle.task_state.proofs.State.waits.Statement.{statement}
 use Rattle.task_state.proofs.State.waits.Tie as tie
 
@@ -21,17 +21,17 @@ at c = search rules
 oldest : tie.Need-element-copy-out-oldest
 oldest c = search rules
 
-due-after-requires : tie.Need-due-after-requires
-due-after-requires c κs = search rules
+due_after_requires : tie.Need-due-after-requires
+due_after_requires c κs = search rules
 
-held-requires : tie.Need-held-requires
-held-requires c κs = search rules
+held_requires : tie.Need-held-requires
+held_requires c κs = search rules
 
 cast : tie.Need-overflow-cast-result
 cast c = search rules
 
 -- the three tests are the contract's own: another core is refused beside the one that it should be
-tests : (ln : Line) (st : State) (k x : ℕ) {after : Duration} {early b : Bool} → after ≡ duration (dueAfter ln) → early ≡ held_at after.0 (deadlineOf st) x
+tests : (ln : Line) (st : State) (k x : ℕ) {after : Duration} {early b : Bool} → after ≡ duration (due_after ln) → early ≡ held_at after.0 (deadline_of st) x
     → b ≡ (ltb 0 st.live && eqb (get_or st.cores 0 0) k && not early) → b ≡ waits ln st k x
 tests ln st k x q e s = rw (s, e, q)
 
@@ -39,7 +39,7 @@ returns : tie.Need-returns
 returns c =
     let d = c.before in
     let s = d.before.before.before.args in
-    tests s.line s.t1 s.core s.time.0 d.due-after.ensures c.held.ensures refl
+    tests s.line s.t1 s.core s.time.0 d.due_after_lem.ensures c.held.ensures refl
 
-pub waits-spec : {M : Type 1} → statement M
-waits-spec = tie.close (tie.spec at oldest due-after-requires held-requires cast returns)
+pub waits_spec : {M : Type 1} → statement M
+waits_spec = tie.close (tie.spec at oldest due_after_requires held_requires cast returns)

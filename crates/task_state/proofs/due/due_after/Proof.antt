@@ -6,5 +6,5 @@ use Rattle.task_state.proofs.due.due_after.Tie as tie
 returns : tie.Need-returns
 returns c = refl
 
-pub due-after-spec : {M : Type 1} → statement M
-due-after-spec = tie.close (tie.spec returns)
+pub due_after_spec : {M : Type 1} → statement M
+due_after_spec = tie.close (tie.spec returns)

@@ -4,8 +4,8 @@ use Rattle.writing.proofs.Wrote.{then}
 use Rattle.writing.proofs.digits.put_four.Statement.{statement}
 use Rattle.writing.proofs.digits.put_four.Tie as tie
 
-put-two-requires : tie.Need-put-two-requires
-put-two-requires c κs = search rules
+put_two_requires : tie.Need-put-two-requires
+put_two_requires c κs = search rules
 
 put-two-requires-2 : tie.Need-put-two-requires-2
 put-two-requires-2 c κs = search rules
@@ -19,5 +19,5 @@ returns c =
     let p1 = p2.before.before.before.before in
     then p1.put_two.ensures p2.put-two2.ensures
 
-pub put-four-spec : {M : Type 1} → statement M
-put-four-spec = tie.close (tie.spec put-two-requires put-two-requires-2 same_length returns)
+pub put_four_spec : {M : Type 1} → statement M
+put_four_spec = tie.close (tie.spec put_two_requires put-two-requires-2 same_length returns)

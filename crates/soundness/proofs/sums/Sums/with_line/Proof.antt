@@ -9,38 +9,38 @@ use Rattle.soundness.proofs.sums.Sums.with_line.Statement.{statement}
 use Rattle.soundness.proofs.sums.Sums.with_line.Tie as tie
 
 -- whether the task moves
-told : (c : tie.After-moves-by) → c.moves-by.result ≡ moves (row_of c.before.before.before.args.line)
-told c = c.moves-by.ensures ∙ ap (ltb 1) c.before.parts-of.ensures
+told : (c : tie.After-moves-by) → c.moves_by_lem.result ≡ moves (row_of c.before.before.before.args.line)
+told c = c.moves_by_lem.ensures ∙ ap (ltb 1) c.before.parts_of_lem.ensures
 
-parts-of-requires : tie.Need-parts-of-requires
-parts-of-requires c κs = search rules
+parts_of_requires : tie.Need-parts-of-requires
+parts_of_requires c κs = search rules
 
-moves-by-requires : tie.Need-moves-by-requires
-moves-by-requires c κs = search rules
+moves_by_requires : tie.Need-moves-by-requires
+moves_by_requires c κs = search rules
 
-with-mover-requires : tie.Need-with-mover-requires
-with-mover-requires c κs =
+with_mover_requires : tie.Need-with-mover-requires
+with_mover_requires c κs =
     let s = c.before.before.before.before in
     (s.requires.0, s.requires.1, s.requires.2, sym (told c.before) ∙ c.if1.true)
 
 returns : tie.Need-returns
 returns c = c.with-mover.ensures
 
-with-fixed-requires : tie.Need-with-fixed-requires
-with-fixed-requires c κs =
+with_fixed_requires : tie.Need-with-fixed-requires
+with_fixed_requires c κs =
     let s = c.before.before.before.before in
     (s.requires.0, omega (arith, s.requires.1, s.requires.2), sym (told c.before) ∙ c.if1.false)
 
-returns-2 : tie.Need-returns-2
-returns-2 c = c.with-fixed.ensures
+returns_2 : tie.Need-returns-2
+returns_2 c = c.with-fixed.ensures
 
-pub with-line-spec : {M : Type 1} → statement M
-with-line-spec =
+pub with_line_spec : {M : Type 1} → statement M
+with_line_spec =
     tie.close
     (tie.spec
-    parts-of-requires
-    moves-by-requires
-    with-mover-requires
+    parts_of_requires
+    moves_by_requires
+    with_mover_requires
     returns
-    with-fixed-requires
-    returns-2)
+    with_fixed_requires
+    returns_2)

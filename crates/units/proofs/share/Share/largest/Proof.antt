@@ -6,5 +6,5 @@ use Rattle.units.proofs.share.Share.largest.Tie as tie
 returns : tie.Need-returns
 returns c = refl
 
-pub largest-spec : {M : Type 1} → statement M
-largest-spec = tie.close (tie.spec returns)
+pub largest_spec : {M : Type 1} → statement M
+largest_spec = tie.close (tie.spec returns)

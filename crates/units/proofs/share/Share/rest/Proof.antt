@@ -9,8 +9,8 @@ sub-t5 c = omega arith
 returns : tie.Need-returns
 returns c = omega arith
 
-returns-2 : tie.Need-returns-2
-returns-2 c = omega arith
+returns_2 : tie.Need-returns-2
+returns_2 c = omega arith
 
-pub rest-spec : {M : Type 1} → statement M
-rest-spec = tie.close (tie.spec sub-t5 returns returns-2)
+pub rest_spec : {M : Type 1} → statement M
+rest_spec = tie.close (tie.spec sub-t5 returns returns_2)

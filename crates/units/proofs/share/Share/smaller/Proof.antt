@@ -6,8 +6,8 @@ use Rattle.units.proofs.share.Share.smaller.Tie as tie
 returns : tie.Need-returns
 returns c = omega arith
 
-returns-2 : tie.Need-returns-2
-returns-2 c = omega arith
+returns_2 : tie.Need-returns-2
+returns_2 c = omega arith
 
-pub smaller-spec : {M : Type 1} → statement M
-smaller-spec = tie.close (tie.spec returns returns-2)
+pub smaller_spec : {M : Type 1} → statement M
+smaller_spec = tie.close (tie.spec returns returns_2)
