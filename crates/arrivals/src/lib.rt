@@ -1,4 +1,6 @@
 // Testing the arrivals of a day: a lent list of numbers, three to an arrival: its time, its task from 1 and its length.
+#![tactic(auto)]
+
 ghost use Rattle.std.specs.Prelude.{◌≡◌};
 ghost use Rattle.arrivals.specs.Arrivals.{arrivals_in, tests_of, arrivals_refusal};
 ghost use Rattle.arrivals.specs.Inner.{place_of};

@@ -1,4 +1,6 @@
 // The two passes of assignment: which core has how much of which task.
+#![tactic(auto)]
+
 ghost use Rattle.std.specs.Prelude.{◌≡◌};
 ghost use Rattle.lists.specs.Lists.{at_most};
 ghost use Rattle.units.specs.Units.{nums};

@@ -1,4 +1,6 @@
 // What each call tests: first what every call does, then its own.
+#![tactic(auto)]
+
 ghost use Rattle.std.specs.Prelude.{◌≡◌};
 ghost use Rattle.call_tests.specs.Tests.{shared_tests, release_tests, finish_tests};
 ghost use Rattle.call_tests.specs.Inner.{first_of};

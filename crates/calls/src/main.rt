@@ -1,4 +1,6 @@
 // The call player: a table's text and calls on standard input, a line for each call on standard output.
+#![tactic(auto)]
+
 ghost use Rattle.std.specs.Prelude.{◌≡◌, length};
 ghost use Rattle.player.specs.Played.{answers_limit};
 

@@ -1,4 +1,6 @@
 // The call player's input: a table's text, a line `calls`, then one call to a line.
+#![tactic(auto)]
+
 pub mod calls;
 pub mod line;
 

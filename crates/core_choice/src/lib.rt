@@ -1,4 +1,6 @@
 // Who goes first on a core: the better of two tasks, and the choice that the best one is.
+#![tactic(auto)]
+
 ghost use Rattle.std.specs.Prelude.{◌≡◌, ◌+◌, ◌<◌, ◌≤◌};
 ghost use Rattle.units.specs.Limits.{cores_limit, period_limit, clock_limit};
 ghost use Rattle.task_state.specs.Key.{deadline_of};

@@ -1,4 +1,6 @@
 // The rules of soundness for one core, by its numbers.
+#![tactic(auto)]
+
 ghost use Rattle.std.specs.Prelude.{◌≡◌, ◌&&◌, ◌||◌, not, ltb, leb, eqb};
 
 use units::share::Share;

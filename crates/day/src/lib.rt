@@ -1,1 +1,2 @@
 // The plain model of a rehearsal's day: definitions and laws alone.
+#![tactic(auto)]

@@ -1,4 +1,6 @@
 // Reading a rehearsal's input: a table's text, a line `rehearse STOP`, then a line `TIME TASK LENGTH` for each arrival.
+#![tactic(auto)]
+
 ghost use Rattle.std.specs.Prelude.{◌≡◌, [], ◌∷◌, ◌*◌, ◌≤◌, length};
 ghost use Rattle.std.proofs.lemmas.List.Edits.{sets};
 ghost use Rattle.table_text.specs.Text.{table_said};

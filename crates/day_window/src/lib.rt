@@ -1,4 +1,6 @@
 // A line in a window of a longer text.
+#![tactic(auto)]
+
 ghost use Rattle.std.specs.Prelude.{◌+◌, ◌≤◌};
 ghost use Rattle.writing.specs.Inner.{place_limit};
 ghost use Rattle.day_lines.specs.Lines.{event_text};

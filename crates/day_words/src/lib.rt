@@ -1,1 +1,2 @@
 // What a rehearsal is in the request's words: definitions and laws alone.
+#![tactic(auto)]

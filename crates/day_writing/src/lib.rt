@@ -1,4 +1,6 @@
 // Writing what a rehearsal says of an arrival and of all cores, in a window of its text.
+#![tactic(auto)]
+
 ghost use Rattle.std.specs.Prelude.{◌+◌, ◌*◌, ◌≤◌, ◌<◌, ◌≡◌, cond, [], ◌∷◌, eqb, length};
 ghost use Rattle.units.specs.Limits.{cores_limit};
 ghost use Rattle.writing.specs.Inner.{place_limit};

@@ -1,4 +1,6 @@
 // The dispatcher: a record that goes in by value and comes back, and the calls on it.
+#![tactic(auto)]
+
 pub mod call;
 pub mod finish;
 pub mod look;

@@ -1,4 +1,6 @@
 // What an instant asks of the tasks, in a lent list of seven numbers a task: nothing of it is copied.
+#![tactic(auto)]
+
 ghost use Rattle.std.specs.Prelude.{◌≡◌, ◌*◌, ◌<◌, length};
 ghost use Rattle.units.specs.Limits.{tasks_limit};
 ghost use Rattle.front_rows.specs.Rows.{front_at, put_front};

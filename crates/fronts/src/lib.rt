@@ -1,4 +1,6 @@
 // What an instant asks of a task: its oldest unfinished run, and when a run of it is released next.
+#![tactic(auto)]
+
 ghost use Rattle.std.specs.Prelude.{◌≡◌};
 ghost use Rattle.units.specs.Units.{ticks};
 ghost use Rattle.release_times.specs.Times.{released_at};

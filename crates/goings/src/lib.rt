@@ -1,4 +1,6 @@
 // The runs that have the cores, and since when.
+#![tactic(auto)]
+
 ghost use Rattle.std.specs.Prelude.{◌≡◌, ◌*◌, ◌<◌, ◌≤◌, length};
 ghost use Rattle.units.specs.Limits.{cores_limit};
 ghost use Rattle.goings.specs.Going.{going_of, ran_by};

@@ -1,4 +1,6 @@
 // What the box's host, which is written in C, calls. Nothing is kept between calls.
+#![tactic(auto)]
+
 ghost use Rattle.std.specs.Prelude.{◌≡◌, ◌<◌, ◌^◌, length};
 ghost use Rattle.host.specs.Host.{admit_of, negative as negativeOf, answered, host_listed, host_after};
 

@@ -1,4 +1,6 @@
 // The choices of all cores at an instant, in one scan of the tasks, and how long they last.
+#![tactic(auto)]
+
 ghost use Rattle.std.specs.Prelude.{◌≡◌, ◌*◌, ◌≤◌, length};
 ghost use Rattle.front_rows.specs.Rows.{fronts_in};
 ghost use Rattle.units.specs.Limits.{cores_limit, tasks_limit};

@@ -1,3 +1,5 @@
 // Lateness bounds of a plan, whoever drew it.
+#![tactic(auto)]
+
 pub mod bounds;
 mod movers;

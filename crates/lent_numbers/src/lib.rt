@@ -1,4 +1,6 @@
 // A lent list of numbers.
+#![tactic(auto)]
+
 ghost use Rattle.std.specs.Prelude.{◌≡◌, set};
 
 // Stores a number where the list reaches.

@@ -1,4 +1,6 @@
 // Looking for the first line of a text that starts with a word.
+#![tactic(auto)]
+
 ghost use Rattle.std.specs.Prelude.{◌≡◌, ◌<◌, ◌≤◌, length};
 ghost use Rattle.line_place.specs.Place.{line_starts, line_here, line_place};
 

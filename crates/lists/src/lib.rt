@@ -1,1 +1,2 @@
 // Definitions and laws on lists of numbers: all of it stands in specs/ and proofs/.
+#![tactic(auto)]

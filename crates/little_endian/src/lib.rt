@@ -1,4 +1,6 @@
 // Numbers in bytes, least byte first, at a place of a lent slice. A byte past its end counts as 0.
+#![tactic(auto)]
+
 ghost use Rattle.std.specs.Prelude.{◌≡◌, ◌<◌, get_or};
 ghost use Rattle.little_endian.specs.Number.{number, number32_at, farthest};
 

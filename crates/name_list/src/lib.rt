@@ -1,4 +1,6 @@
 // A list of names: a text, a name a line.
+#![tactic(auto)]
+
 ghost use Rattle.std.specs.Prelude.{◌≡◌, [], ◌∷◌, ◌++◌, length};
 ghost use Rattle.writing.specs.Ascii.{newline};
 ghost use Rattle.names.specs.Name.{letters};

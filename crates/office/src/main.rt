@@ -1,4 +1,6 @@
 // The office's writer: a table's text and its names on standard input, the sheet or the refusal on standard output.
+#![tactic(auto)]
+
 use office_answer::{ANSWER, answer};
 use streams::{Input, read_input, write_output};
 

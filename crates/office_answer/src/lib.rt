@@ -1,4 +1,6 @@
 // What the program `office` writes: a table's text and names in, the sheet or the refusal's line out.
+#![tactic(auto)]
+
 ghost use Rattle.std.specs.Prelude.{◌≤◌, length};
 ghost use Rattle.units.specs.Refusals.{refusal};
 ghost use Rattle.writing.specs.Wrote.{Wrote};

@@ -1,4 +1,6 @@
 // The program: a table's text on standard input, its listing or refusal on standard output.
+#![tactic(auto)]
+
 use plan_answer::{ANSWER, answer};
 use streams::{Input, read_input, write_output};
 use table_text::BYTES;

@@ -1,4 +1,6 @@
 // What the program writes for a text: the listing, or the refusal's line.
+#![tactic(auto)]
+
 ghost use Rattle.std.specs.Prelude.{◌≤◌, length};
 ghost use Rattle.writing.specs.Wrote.{Wrote};
 ghost use Rattle.listing.specs.Listed.{listing_limit};

@@ -1,4 +1,6 @@
 // Planning: from a core count and a lent table to a plan, or to the first refusal that applies.
+#![tactic(auto)]
+
 ghost use Rattle.std.specs.Prelude.{◌≡◌, ◌*◌, ◌≤◌, length};
 ghost use Rattle.units.specs.Limits.{cores_limit, tasks_limit};
 ghost use Rattle.units.specs.Units.{nums};

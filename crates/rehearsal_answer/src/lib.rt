@@ -1,4 +1,6 @@
 // What the program `rehearse` writes: a table's text, a stop and arrivals in, the day's lines or the refusal's out, piece by piece.
+#![tactic(auto)]
+
 ghost use Rattle.planning.specs.Plan.{plan_of};
 ghost use Rattle.writing.specs.Refused.{refusal_text};
 ghost use Rattle.day_window.specs.Window.{Windowed};

@@ -1,4 +1,6 @@
 // The program: a table's text, a stop and arrivals on standard input, the day's lines or the refusal's on standard output.
+#![tactic(auto)]
+
 ghost use Rattle.std.specs.Prelude.{◌≡◌, ◌<◌, length};
 ghost use Rattle.rehearsal_answer.specs.Inner.{piece_length};
 

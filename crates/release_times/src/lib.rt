@@ -1,4 +1,6 @@
 // When a run is released, and whether it is held.
+#![tactic(auto)]
+
 ghost use Rattle.std.specs.Prelude.{◌≡◌, ◌≤◌};
 ghost use Rattle.units.specs.Limits.{clock_limit};
 ghost use Rattle.units.specs.Units.{ticks};

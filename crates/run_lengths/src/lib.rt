@@ -1,4 +1,6 @@
 // What a rehearsal keeps of a task beside its state: its unfinished runs' lengths, and how many runs have ended.
+#![tactic(auto)]
+
 ghost use Rattle.std.specs.Prelude.{◌≡◌, ◌<◌};
 ghost use Rattle.units.specs.Limits.{runs_limit, clock_limit};
 ghost use Rattle.run_lengths.specs.Work.{with_length, without_length};

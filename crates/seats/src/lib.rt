@@ -1,4 +1,6 @@
 // One task of a rehearsal: its state and its runs' lengths, with a run more and without the oldest.
+#![tactic(auto)]
+
 ghost use Rattle.std.specs.Prelude.{◌≡◌};
 ghost use Rattle.seats.specs.Seat.{arrived_of, ended_of};
 ghost use Rattle.seats.specs.Inner.{Arrivable, Endable};

@@ -1,4 +1,6 @@
 // The program: a line with M and a sheet on standard input, the listing, the tick length and the names on standard output.
+#![tactic(auto)]
+
 use sheet_answer::INPUT;
 use sheet_answer::sheet::{ANSWER, answer_sheet};
 use streams::{Input, read_input, write_output};

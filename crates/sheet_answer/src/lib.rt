@@ -1,4 +1,6 @@
 // What the programs `sheet` and `table` write: a line with M and a sheet in, the listing with names or the table's text out.
+#![tactic(auto)]
+
 mod input;
 pub mod sheet;
 pub mod table;

@@ -1,4 +1,6 @@
 // Reading the office's sheet: a core count and a sheet to the tick length, the names and the plan, or the refusal.
+#![tactic(auto)]
+
 ghost use Rattle.std.specs.Prelude.{◌≡◌, map, ◌≤◌, length};
 ghost use Rattle.planning.specs.Plan.{plan_of};
 ghost use Rattle.sheet_text.specs.Job.{jobs_from};

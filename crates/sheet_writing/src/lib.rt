@@ -1,4 +1,6 @@
 // Writing a table as the office's sheet: its ticks times the tick length.
+#![tactic(auto)]
+
 ghost use Rattle.std.specs.Prelude.{◌≡◌, ◌*◌, ◌+◌, ◌≤◌, length};
 ghost use Rattle.units.specs.Limits.{tasks_limit};
 ghost use Rattle.units.specs.Refusals.{refusal as refusalOf};

@@ -1,4 +1,6 @@
 // The rules of soundness for one task's state.
+#![tactic(auto)]
+
 ghost use Rattle.std.specs.Prelude.{◌≡◌, cond, ◌<◌, eqb};
 ghost use Rattle.lists.specs.Lists.{total};
 ghost use Rattle.state_rules.specs.Sound.{runs_sound, last_sound, state_sound, runs_empty, state_empty};

@@ -1,4 +1,6 @@
 // A stored run, and its rules of soundness.
+#![tactic(auto)]
+
 ghost use Rattle.std.specs.Prelude.{◌≡◌, ◌&&◌, ltb, leb};
 ghost use Rattle.units.specs.Limits.{cores_limit};
 ghost use Rattle.stored_runs.specs.Run.{run_empty};

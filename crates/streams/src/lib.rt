@@ -1,4 +1,6 @@
 // Standard input and standard output of the programs. What fails is said on standard error.
+#![tactic(auto)]
+
 ghost use Rattle.std.specs.Prelude.{◌≤◌, length};
 ghost use Rattle.streams.specs.Input.{bytes_of};
 

@@ -1,4 +1,6 @@
 // The program: a line with M and a sheet on standard input, the table's text on standard output.
+#![tactic(auto)]
+
 use sheet_answer::INPUT;
 use sheet_answer::table::{TABLE, answer_table};
 use streams::{Input, read_input, write_output};

@@ -1,4 +1,6 @@
 // Reading the program's text: a core count and a table, or the line that cannot be read.
+#![tactic(auto)]
+
 ghost use Rattle.std.specs.Prelude.{◌≡◌, length};
 ghost use Rattle.std.proofs.lemmas.List.Edits.{sets};
 ghost use Rattle.table_text.specs.Text.{text_of, table_from, bad_task, numbers_from, table_said, answer_of};

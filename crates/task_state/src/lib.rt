@@ -1,4 +1,6 @@
 // What a task is at, beside its line of the plan.
+#![tactic(auto)]
+
 pub mod due;
 pub mod key;
 pub mod runs;

@@ -1,4 +1,6 @@
 // Nanoseconds as ticks of a tick length: costs round up, periods round down.
+#![tactic(auto)]
+
 ghost use Rattle.std.specs.Prelude.{◌≡◌, cond, ◌<◌};
 ghost use Rattle.tick_length.specs.Ticks.{tick_in, cost_ticks, period_ticks};
 ghost use Rattle.tick_length.specs.Inner.{held};

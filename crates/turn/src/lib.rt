@@ -1,4 +1,6 @@
 // Which core a run goes to: a one-processor Pfair rule.
+#![tactic(auto)]
+
 ghost use Rattle.std.specs.Prelude.{◌≤◌, ◌<◌, ◌≡◌};
 ghost use Rattle.units.specs.Limits.{cores_limit};
 ghost use Rattle.units.specs.Units.{nums};

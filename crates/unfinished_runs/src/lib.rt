@@ -1,4 +1,6 @@
 // Writing the unfinished runs at a rehearsal's stop, in a window of its text.
+#![tactic(auto)]
+
 ghost use Rattle.std.specs.Prelude.{◌≡◌, length, ◌+◌, ◌*◌, ◌≤◌, ◌<◌};
 ghost use Rattle.units.specs.Limits.{runs_limit, tasks_limit, clock_limit};
 ghost use Rattle.writing.specs.Inner.{place_limit};

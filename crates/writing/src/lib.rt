@@ -1,4 +1,6 @@
 // Writers of text into a lent buffer. Each stores as much as fits and answers the index after its text.
+#![tactic(auto)]
+
 ghost use Rattle.std.specs.Prelude.{◌≡◌, [], ◌∷◌, ◌++◌, ◌+◌, ◌≤◌, length, nat_abs};
 ghost use Rattle.writing.specs.Inner.{place_limit};
 ghost use Rattle.writing.specs.Decimal.{decimal_of, signed_of};
