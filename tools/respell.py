@@ -47,7 +47,7 @@ def snake(name):
 
 def declared():
     found = collections.defaultdict(set)
-    for path in files():
+    for path in files() + sorted(glob.glob("crates/*/src/**/*.rt", recursive=True)):
         for line in open(path):
             head = line[PREFIX.match(line).end():].split(" : ")[0].rstrip("\n").removesuffix(" :")
             names = head.split() if path.endswith(".antt") else []

@@ -1,11 +1,11 @@
 // Greatest common divisor and least common multiple.
 ghost use Rattle.std.specs.Prelude.{◌≡◌, ◌%◌};
-ghost use Rattle.arith.specs.Divisor.{gcd as gcdOf, lcm as lcmOf};
+ghost use Rattle.arith.specs.Divisor.{gcd as gcd_of, lcm as lcm_of};
 
 // That of an odd number and another: of two odd ones the smaller is kept and taken off the larger, which leaves an even one to halve.
 fn odd_gcd(odd: u32, other: u32) -> u32
     requires { odd % 2 ≡ 1 }
-    ensures { result ≡ gcdOf odd other }
+    ensures { result ≡ gcd_of odd other }
 {
     if odd == 1 {
         return 1;
@@ -29,7 +29,7 @@ fn odd_gcd(odd: u32, other: u32) -> u32
 
 // The greatest common divisor, by halving and subtracting: the second number is halved to an odd one, and each two that both have doubles the answer.
 pub fn gcd(a: u32, b: u32) -> u32
-    ensures { result ≡ gcdOf a b }
+    ensures { result ≡ gcd_of a b }
 {
     if a == 0 {
         return b;
@@ -52,7 +52,7 @@ pub fn gcd(a: u32, b: u32) -> u32
 
 // The least common multiple, which may need more than 32 bits; a itself where b divides it.
 pub(crate) fn lcm(a: u32, b: u32) -> u64
-    ensures { result ≡ lcmOf a b }
+    ensures { result ≡ lcm_of a b }
 {
     if b == 0 {
         return 0;

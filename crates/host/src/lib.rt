@@ -2,7 +2,7 @@
 #![tactic(auto)]
 
 ghost use Rattle.std.specs.Prelude.{◌≡◌, ◌<◌, ◌^◌, length};
-ghost use Rattle.host.specs.Host.{admit_of, negative as negativeOf, answered, host_listed, host_after};
+ghost use Rattle.host.specs.Host.{admit_of, negative as negative_of, answered, host_listed, host_after};
 
 use crate::bytes::table_of;
 use admission::admit::admit;
@@ -13,7 +13,7 @@ pub mod dispatcher;
 
 // A refusal number made negative.
 fn negative(number: u32) -> i64
-    ensures { result ≡ negativeOf number }
+    ensures { result ≡ negative_of number }
 {
     0 - number as i64
 }

@@ -3,7 +3,7 @@ ghost use Rattle.std.specs.Prelude.{ℕ, ◌+◌, ◌≤◌, ◌<◌, ◌≡◌,
 ghost use Rattle.units.specs.Limits.{cores_limit, period_limit};
 ghost use Rattle.lists.specs.Lists.{most};
 ghost use Rattle.planning.specs.Kept.{PlanKept};
-ghost use Rattle.lateness.specs.Lateness.{reaches as reachesOf, fixed_late, lates_of};
+ghost use Rattle.lateness.specs.Lateness.{reaches as reaches_of, fixed_late, lates_of};
 ghost use Rattle.lateness.specs.Inner.{MoversOf, push_by, reach_by, pair_late, late_at, EachLate, MoverInRange, PairInRange, BoundsReady, reach_limit, late_limit};
 
 use crate::movers::{Mover, Movers, mover_on, with_line};
@@ -56,7 +56,7 @@ fn fixed_on(common: u32, reaches: &[u64; CORES], upper: Mover, lower: Mover) -> 
 // The reach of each of a plan's movers by its first core.
 fn reaches_of(plan: Plan, movers: Movers) -> [u64; CORES]
     requires { (PlanKept plan) × (MoversOf plan.lines movers) }
-    ensures { result ≡ reachesOf plan.common plan.lines cores_limit }
+    ensures { result ≡ reaches_of plan.common plan.lines cores_limit }
 {
     let mut reaches = [0u64; CORES];
     let mut p: usize = 0;

@@ -1,8 +1,8 @@
 // The calls for a listing: of a record, and of a table.
 ghost use Rattle.std.specs.Prelude.{true, ◌≡◌, length};
 ghost use Rattle.soundness.specs.Plan.{plan_sound};
-ghost use Rattle.units.specs.Refusals.{refusal as refusalOf};
-ghost use Rattle.listing.specs.Listed.{unlisted as unlistedBy, plan_listed, plan_after, table_listed, table_after, listed_of, buffer_after};
+ghost use Rattle.units.specs.Refusals.{refusal as refusal_of};
+ghost use Rattle.listing.specs.Listed.{unlisted as unlisted_by, plan_listed, plan_after, table_listed, table_after, listed_of, buffer_after};
 
 use crate::writers::put_plan;
 use dispatch::Record;
@@ -22,7 +22,7 @@ const LISTING: usize = 15_960;
 
 // A refusal that names nothing, and no listing.
 fn unlisted(no: u32) -> Listed
-    ensures { result ≡ unlistedBy (refusalOf no 0) }
+    ensures { result ≡ unlisted_by (refusal_of no 0) }
 {
     Listed {
         refusal: Refusal { no: no, named: 0 },

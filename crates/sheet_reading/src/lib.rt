@@ -5,7 +5,7 @@ ghost use Rattle.std.specs.Prelude.{◌≡◌, map, ◌≤◌, length};
 ghost use Rattle.planning.specs.Plan.{plan_of};
 ghost use Rattle.sheet_text.specs.Job.{jobs_from};
 ghost use Rattle.sheet_text.specs.Sheet.{sheet_limit};
-ghost use Rattle.sheet_reading.specs.Read.{unread as unreadBy, planned, plan_sheet};
+ghost use Rattle.sheet_reading.specs.Read.{unread as unread_by, planned, plan_sheet};
 
 use planning::{Line, Plan, plan_of};
 use sheet_text::job::put_names;
@@ -29,7 +29,7 @@ pub struct Sheet {
 
 // A refused sheet.
 pub fn unread(refusal: Refusal) -> Sheet
-    ensures { result ≡ unreadBy refusal }
+    ensures { result ≡ unread_by refusal }
 {
     let plan = Plan {
         cores: 0,

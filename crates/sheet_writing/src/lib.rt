@@ -3,7 +3,7 @@
 
 ghost use Rattle.std.specs.Prelude.{◌≡◌, ◌*◌, ◌+◌, ◌≤◌, length};
 ghost use Rattle.units.specs.Limits.{tasks_limit};
-ghost use Rattle.units.specs.Refusals.{refusal as refusalOf};
+ghost use Rattle.units.specs.Refusals.{refusal as refusal_of};
 ghost use Rattle.admission.specs.Refusals.{◌orElse◌};
 ghost use Rattle.name_list.specs.Names.{names_of, names_said};
 ghost use Rattle.writing.specs.Inner.{place_limit};
@@ -63,7 +63,7 @@ fn put_sheet(buf: &mut [u8], table: &[u32], names: &[u8], tick: u32) -> usize
 
 // 17 and 18: each line is a name, there is one for each task, and none stands twice.
 fn names_refusal(names: &[u8], tasks: usize) -> u32
-    ensures { refusalOf result 0 ≡ (count_test tasks (names_said names.now) or_else twice_test (names_of names.now)) }
+    ensures { refusal_of result 0 ≡ (count_test tasks (names_said names.now) or_else twice_test (names_of names.now)) }
 {
     match read_names(names) {
         Names::Unreadable => Refusal::SHEET,

@@ -1,7 +1,7 @@
 // Who goes first on a core.
 ghost use Rattle.std.specs.Prelude.{◌≡◌, ◌+◌, ◌<◌, ◌≤◌};
 ghost use Rattle.units.specs.Limits.{cores_limit, clock_limit, period_limit};
-ghost use Rattle.task_state.specs.Key.{deadline_of, waits as waitsOn, key_of};
+ghost use Rattle.task_state.specs.Key.{deadline_of, waits as waits_on, key_of};
 
 use crate::State;
 use crate::due::due_after;
@@ -15,7 +15,7 @@ impl State {
     // Its oldest unfinished run is on this core, from 1, and not held.
     pub fn waits(self, line: Line, core: usize, time: Ticks) -> bool
         requires { time.0 ≤ clock_limit }
-        ensures { result ≡ waitsOn line self core time.0 }
+        ensures { result ≡ waits_on line self core time.0 }
     {
         let at = self.cores[0];
         let oldest = self.deadlines[0];

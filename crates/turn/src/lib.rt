@@ -5,7 +5,7 @@ ghost use Rattle.std.specs.Prelude.{◌≤◌, ◌<◌, ◌≡◌};
 ghost use Rattle.units.specs.Limits.{cores_limit};
 ghost use Rattle.units.specs.Units.{nums};
 ghost use Rattle.lists.specs.Lists.{total};
-ghost use Rattle.turn.specs.Turn.{better_core, counted as countedOf, turn_of};
+ghost use Rattle.turn.specs.Turn.{better_core, counted as counted_of, turn_of};
 ghost use Rattle.turn.specs.Inner.{Turnable};
 
 use arith::ceiling::ceil_div;
@@ -65,7 +65,7 @@ pub fn turn_of(weight: Share, place: u32, shares: [Share; CORES], counts: [u32; 
 // The run is counted; after the last run of a cycle counts and place start from 0 again.
 fn counted(core: usize, counts: [u32; CORES], weight: u32, place: u32) -> Turn
     requires { (0 < core) × (core ≤ cores_limit) × (place < weight) × (total counts ≡ place) }
-    ensures { result ≡ countedOf weight place counts core }
+    ensures { result ≡ counted_of weight place counts core }
 {
     if place + 1 == weight {
         return Turn {
