@@ -4,7 +4,7 @@
 ghost use Rattle.std.specs.Prelude.{◌≤◌, length};
 ghost use Rattle.streams.specs.Input.{bytes_of};
 
-use libc::{STDIN_FILENO, STDOUT_FILENO};
+use std::io::{Eprint, Input as Source, Print, Read};
 
 // How many bytes were read, up to the end of the input or of the buffer; or the reading failed.
 #[derive(Drop)]
@@ -14,28 +14,27 @@ pub enum Input {
 }
 
 // Standard input, into the start of a buffer.
-pub fn read_input(buf: &mut [u8]) -> Input
+pub fn read_input<R: Source + Eprint>(rt: &R, buf: &mut [u8]) -> Input
     ensures { bytes_of result ≤ length buf.new }
 {
+    let mut source = rt.reader();
     let mut n = 0;
     while n < buf.len() {
-        let got = libc::read(STDIN_FILENO, &mut buf[n..]);
-        if got < 0 {
-            os::fail(b"cannot read the input");
-            return Input::Failed;
+        match source.read(&mut buf[n..]) {
+            Ok(0) => return Input::Got(n),
+            Ok(more) => n += more,
+            Err(e) => {
+                let _ = eprintln!(rt; "cannot read the input: {e}");
+                return Input::Failed;
+            }
         }
-        let more = io::count(got, &buf[n..]);
-        if more == 0 {
-            return Input::Got(n);
-        }
-        n += more;
     }
     Input::Got(n)
 }
 
 // Bytes to standard output.
-pub fn write_output(bytes: &[u8]) {
-    if !io::write_all(STDOUT_FILENO, bytes) {
-        os::fail(b"cannot write the answer");
+pub fn write_output<R: Print + Eprint>(rt: &R, bytes: &[u8]) {
+    if let Err(e) = Print::write_all(rt, bytes) {
+        let _ = eprintln!(rt; "cannot write the answer: {e}");
     }
 }
