@@ -11,7 +11,7 @@ use units::refusal::Refusal;
 use units::share::Share;
 
 // The refusal, or none with the common period and each task's weight; on a refusal all other numbers are 0.
-#[derive(Drop)]
+#[derive(Clone, Copy)]
 pub struct Admission {
     pub refusal: Refusal,
     pub common: u32,

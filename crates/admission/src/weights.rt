@@ -10,7 +10,7 @@ use units::limits::TASKS;
 use units::share::Share;
 
 // Each task's weight, and their sum.
-#[derive(Drop)]
+#[derive(Clone, Copy)]
 pub(crate) struct Weighed {
     pub(crate) weights: [Share; TASKS],
     pub(crate) sum: Share,

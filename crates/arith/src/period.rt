@@ -5,7 +5,7 @@ ghost use Rattle.arith.specs.Period.{periods, period_of};
 use crate::divisor::lcm;
 use units::limits::COMMON;
 
-#[derive(Drop)]
+#[derive(Clone, Copy)]
 pub enum Period {
     // The least common multiple of all periods.
     Common(u32),

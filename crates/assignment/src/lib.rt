@@ -12,7 +12,7 @@ use units::limits::{CORES, TASKS};
 use units::share::Share;
 
 // A number for each core: one task's shares, or the cores' room.
-#[derive(Drop)]
+#[derive(Clone, Copy)]
 pub struct Row {
     pub shares: [Share; CORES],
 }

@@ -12,7 +12,7 @@ use units::ticks::Ticks;
 const BOUND: u64 = 1_000_000_000_000_000;
 
 // A call, and the place after its line.
-#[derive(Drop)]
+#[derive(Clone, Copy)]
 pub enum CallLine {
     Called(Call, usize),
     NoCall,

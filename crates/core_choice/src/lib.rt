@@ -13,14 +13,14 @@ use task_state::State;
 use units::ticks::Ticks;
 
 // Where a mover stands on a core: lower on its first core, upper on any other.
-#[derive(Drop)]
+#[derive(Clone, Copy)]
 pub enum Side {
     Upper,
     Lower,
 }
 
 // A core's choice: idle, a fixed task with its deadline, or a mover with its deadline and side.
-#[derive(Drop)]
+#[derive(Clone, Copy)]
 pub enum Choice {
     Idle,
     Fixed(usize, Ticks),
@@ -29,7 +29,7 @@ pub enum Choice {
 
 // A choice in numbers: its kind (0 idle, 1 fixed, 2 lower, 3 upper), its task from 1 and its deadline; 0 and 0 where it is idle.
 #[repr(C)]
-#[derive(Drop)]
+#[derive(Clone, Copy)]
 pub struct Told {
     pub kind: u64,
     pub task: usize,
@@ -63,7 +63,7 @@ impl Told {
 }
 
 // The best task so far, from 1 (0: none), and its key.
-#[derive(Drop)]
+#[derive(Clone, Copy)]
 pub struct Best {
     pub task: usize,
     pub key: u64,

@@ -10,7 +10,7 @@ use units::ticks::Ticks;
 use writing::{NEWLINE, put_byte, put_field, put_signed, put_text};
 
 // A run on a core: its task's number and its own, each from 1.
-#[derive(Drop)]
+#[derive(Clone, Copy)]
 pub struct Ran {
     pub core: usize,
     pub task: usize,
@@ -19,7 +19,7 @@ pub struct Ran {
 
 // A run finished at an instant, so late; an arrival refused by a number, of a task at an instant; a run had a core from one instant to another;
 // the stop; a run that is unfinished then, with its deadline, the ticks it has had and its length.
-#[derive(Drop)]
+#[derive(Clone, Copy)]
 pub enum Event {
     Finished(Ran, Ticks, i64),
     Refused(u32, usize, usize, Ticks),

@@ -23,7 +23,7 @@ pub const NUMBERS: usize = 12_288;
 pub const INPUT: usize = 200_730;
 
 // The core count, how many numbers the table has, the stop, how many the arrivals have and whether more is left; or the line that is named.
-#[derive(Drop)]
+#[derive(Clone, Copy)]
 pub enum DayReading {
     Unreadable(usize),
     Read {
@@ -36,7 +36,7 @@ pub enum DayReading {
 }
 
 // How many numbers were read, and whether more is left.
-#[derive(Drop)]
+#[derive(Clone, Copy)]
 struct Stored {
     numbers: usize,
     more: bool,

@@ -13,7 +13,7 @@ use writing::{BLANK, NEWLINE};
 const BOUND: u64 = 1_000_000_000_000_000;
 
 // An arrival's time, task and length, and the place after its line.
-#[derive(Drop)]
+#[derive(Clone, Copy)]
 pub enum ArrivalLine {
     Arrived(u64, u64, u64, usize),
     NoArrival,

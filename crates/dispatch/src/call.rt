@@ -8,7 +8,7 @@ use units::refusal::Refusal;
 use units::ticks::Ticks;
 
 // A release of a task, a finish of a task, a look at a core, each at a time.
-#[derive(Drop)]
+#[derive(Clone, Copy)]
 pub enum Call {
     Release(usize, Ticks),
     Finish(usize, Ticks),
@@ -16,7 +16,7 @@ pub enum Call {
 }
 
 // The refusal; a run's core and deadline; the time less the deadline; a core's choice.
-#[derive(Drop)]
+#[derive(Clone, Copy)]
 pub enum Answer {
     Refused(Refusal),
     Released(usize, Ticks),
@@ -25,7 +25,7 @@ pub enum Answer {
 }
 
 // A call's answer, and the record after it.
-#[derive(Drop)]
+#[derive(Clone, Copy)]
 pub struct Answered {
     pub answer: Answer,
     pub next: Record,

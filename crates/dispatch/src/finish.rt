@@ -8,7 +8,7 @@ use units::refusal::Refusal;
 use units::ticks::Ticks;
 
 // The refusal, or 0 with the time less the deadline; and the record after the call.
-#[derive(Drop)]
+#[derive(Clone, Copy)]
 pub struct Finished {
     pub refusal: u32,
     pub late: i64,

@@ -15,7 +15,7 @@ use units::ticks::Ticks;
 
 // The plan, the clock, and what each of its tasks is at.
 #[repr(C)]
-#[derive(Drop)]
+#[derive(Clone, Copy)]
 pub struct Record {
     pub plan: Plan,
     pub clock: Ticks,

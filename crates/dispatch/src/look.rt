@@ -9,7 +9,7 @@ use units::refusal::Refusal;
 use units::ticks::Ticks;
 
 // The refusal, or 0 with the choice; and the record after the call.
-#[derive(Drop)]
+#[derive(Clone, Copy)]
 pub struct Looked {
     pub refusal: u32,
     pub choice: Choice,
@@ -17,7 +17,7 @@ pub struct Looked {
 }
 
 // The same in numbers.
-#[derive(Drop)]
+#[derive(Clone, Copy)]
 pub struct LookedTold {
     pub refusal: u32,
     pub told: Told,

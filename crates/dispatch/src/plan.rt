@@ -10,7 +10,7 @@ use units::refusal::Refusal;
 use units::ticks::Ticks;
 
 // The refusal and the empty record, or none and the fresh record of the plan.
-#[derive(Drop)]
+#[derive(Clone, Copy)]
 pub struct Fresh {
     pub refusal: Refusal,
     pub next: Record,

@@ -16,7 +16,7 @@ use units::ticks::{Duration, Ticks};
 
 // A task's oldest unfinished run: its core, 0 for none, its release time, its key there, its length and its number;
 // beside it the task's last release time and its period.
-#[derive(Drop)]
+#[derive(Clone, Copy)]
 pub struct Front {
     pub core: usize,
     pub release: Ticks,

@@ -11,7 +11,7 @@ use lent_numbers::store_wide;
 use units::ticks::Ticks;
 
 // The run that has a core, its task from 1, 0 for none, and since when.
-#[derive(Drop)]
+#[derive(Clone, Copy)]
 pub struct Going {
     pub task: usize,
     pub run: u64,

@@ -9,7 +9,7 @@ use little_endian::number32;
 use units::limits::TASKS;
 
 // Numbers from the front, then zeros, and how many they are.
-#[derive(Drop)]
+#[derive(Clone, Copy)]
 pub(crate) struct Table {
     pub(crate) numbers: [u32; 2 * TASKS],
     pub(crate) count: usize,

@@ -16,7 +16,7 @@ use listing::listed::list;
 use units::ticks::Ticks;
 
 // What planning leaves in the record that is lent.
-#[derive(Drop)]
+#[derive(Clone, Copy)]
 pub(crate) struct LentStart {
     pub(crate) refusal: u32,
     pub(crate) next: Record,
@@ -118,7 +118,7 @@ pub extern "C" fn yagomila_look(held: &mut Record, core: usize, time: u64, choic
 }
 
 // What a listing leaves in the length that is lent.
-#[derive(Drop)]
+#[derive(Clone, Copy)]
 pub(crate) struct LentList {
     pub(crate) refusal: u32,
     pub(crate) len: i64,

@@ -13,7 +13,7 @@ use units::limits::CORES;
 use units::ticks::Ticks;
 
 // A core's choice: its task from 1, 0 where the core is idle, its key, its run's number and the ticks that this still has to run.
-#[derive(Drop)]
+#[derive(Clone, Copy)]
 pub struct Seen {
     pub task: usize,
     pub key: u64,
@@ -50,7 +50,7 @@ impl Seen {
 }
 
 // Each core's choice, and the next release time ahead or a given time before it.
-#[derive(Drop)]
+#[derive(Clone, Copy)]
 pub struct Instant {
     pub seen: [Seen; CORES],
     pub next: Ticks,

@@ -12,7 +12,7 @@ use units::share::Share;
 use units::ticks::Duration;
 
 // A mover on a core: its share there, its cost, its period and its first core.
-#[derive(Drop)]
+#[derive(Clone, Copy)]
 pub(crate) struct Mover {
     pub(crate) share: Share,
     pub(crate) cost: Duration,
@@ -30,7 +30,7 @@ impl Mover {
 }
 
 // The upper and the lower mover of each core. Their numbers alone are kept: whole lines would be copied for each mover.
-#[derive(Drop)]
+#[derive(Clone, Copy)]
 pub(crate) struct Movers {
     pub(crate) upper: [Mover; CORES],
     pub(crate) lower: [Mover; CORES],

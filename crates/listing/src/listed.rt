@@ -11,7 +11,7 @@ use planning::{Plan, plan_of};
 use units::refusal::Refusal;
 
 // A refusal, or none and the listing's length.
-#[derive(Drop)]
+#[derive(Clone, Copy)]
 pub struct Listed {
     pub refusal: Refusal,
     pub length: usize,

@@ -11,7 +11,7 @@ use scanning::word::{Word, read_word};
 use writing::NEWLINE;
 
 // How many names there are; or a line is none.
-#[derive(Drop)]
+#[derive(Clone, Copy)]
 pub enum Names {
     Count(usize),
     Unreadable,

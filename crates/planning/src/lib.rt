@@ -16,7 +16,7 @@ use units::ticks::Duration;
 
 // A task's line: what the table says of it, and what it is given.
 #[repr(C)]
-#[derive(Drop)]
+#[derive(Clone, Copy)]
 pub struct Line {
     pub cost: Duration,
     pub period: Duration,
@@ -35,7 +35,7 @@ impl Line {
 
 // Cores M, the common period L, the number of tasks N, and the tasks' lines; those past N are empty.
 #[repr(C)]
-#[derive(Drop)]
+#[derive(Clone, Copy)]
 pub struct Plan {
     pub cores: u32,
     pub common: u32,
@@ -44,7 +44,7 @@ pub struct Plan {
 }
 
 // The refusal and the empty plan, or none and the plan.
-#[derive(Drop)]
+#[derive(Clone, Copy)]
 pub struct Planned {
     pub refusal: Refusal,
     pub plan: Plan,

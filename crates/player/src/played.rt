@@ -11,7 +11,7 @@ use calls_text::line::{CallLine, line_after, read_call};
 use dispatch::Record;
 
 // The record after a call, and the place after its answer.
-#[derive(Drop)]
+#[derive(Clone, Copy)]
 struct Played {
     next: Record,
     end: usize,

@@ -56,7 +56,7 @@ pub(crate) fn fresh_fronts(plan: Plan, fronts: &mut [u64])
 }
 
 // How many ticks a jump takes, and the next core whose run may be done then.
-#[derive(Drop)]
+#[derive(Clone, Copy)]
 pub(crate) struct Jump {
     pub more: u64,
     pub core: usize,

@@ -21,7 +21,7 @@ use units::limits::TASKS;
 use units::ticks::Ticks;
 
 // Where a rehearsal is: each task; the instant, the next arrival, the next core whose run may be done, and the place after what was said.
-#[derive(Drop)]
+#[derive(Clone, Copy)]
 pub(crate) struct Desk {
     pub seats: [Seat; TASKS],
     pub time: u64,

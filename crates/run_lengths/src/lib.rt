@@ -8,7 +8,7 @@ ghost use Rattle.run_lengths.specs.Work.{with_length, without_length};
 use units::limits::RUNS;
 
 // The lengths of a task's unfinished runs, oldest first, 0 past them, and how many of its runs have ended.
-#[derive(Drop)]
+#[derive(Clone, Copy)]
 pub struct Work {
     pub lengths: [u64; RUNS],
     pub ended: u64,

@@ -8,7 +8,7 @@ use crate::number::{Number, read_number};
 use writing::{BLANK, NEWLINE};
 
 // Two numbers, and the place after their line.
-#[derive(Drop)]
+#[derive(Clone, Copy)]
 pub enum Pair {
     Two(u64, u64, usize),
     NoPair,

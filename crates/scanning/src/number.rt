@@ -4,7 +4,7 @@ ghost use Rattle.scanning.specs.Number.{digit_of, digits_of, number_at};
 ghost use Rattle.scanning.specs.Inner.{Bound};
 
 // A number and the place after it.
-#[derive(Drop)]
+#[derive(Clone, Copy)]
 pub enum Number {
     Value(u64, usize),
     NoNumber,

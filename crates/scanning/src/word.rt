@@ -3,7 +3,7 @@ ghost use Rattle.std.specs.Prelude.{◌≡◌};
 ghost use Rattle.scanning.specs.Word.{word_at};
 
 // The place after a word.
-#[derive(Drop)]
+#[derive(Clone, Copy)]
 pub enum Word {
     After(usize),
     NoWord,

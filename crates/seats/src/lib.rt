@@ -12,7 +12,7 @@ use task_state::State;
 use units::ticks::Ticks;
 
 // A task's state, and its runs' lengths.
-#[derive(Drop)]
+#[derive(Clone, Copy)]
 pub struct Seat {
     pub state: State,
     pub work: Work,
@@ -26,7 +26,7 @@ impl Seat {
 }
 
 // An arrival's refusal, 0 if it is taken; the task after it, and its front.
-#[derive(Drop)]
+#[derive(Clone, Copy)]
 pub struct Arrived {
     pub refusal: u32,
     pub seat: Seat,
@@ -34,7 +34,7 @@ pub struct Arrived {
 }
 
 // An ended run's lateness; the task after it, and its front.
-#[derive(Drop)]
+#[derive(Clone, Copy)]
 pub struct Ended {
     pub late: i64,
     pub seat: Seat,

@@ -18,7 +18,7 @@ use units::refusal::Refusal;
 pub const NAMES: usize = 832;
 
 // The tick length, the names, a name a line, their length and the plan; or the refusal, and every other number 0.
-#[derive(Drop)]
+#[derive(Clone, Copy)]
 pub struct Sheet {
     pub refusal: Refusal,
     pub tick: u32,

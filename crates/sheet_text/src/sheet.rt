@@ -19,7 +19,7 @@ use writing::NEWLINE;
 pub const SHEET: usize = 4_096;
 
 // The tick length, where the jobs start and how many numbers their table has; or the refusal's number.
-#[derive(Drop)]
+#[derive(Clone, Copy)]
 pub enum Reading {
     Read {
         tick: u32,

@@ -20,7 +20,7 @@ use units::refusal::Refusal;
 use writing::{NEWLINE, put_byte, put_field, put_number, put_text};
 
 // A refusal, or none and the sheet's length.
-#[derive(Drop)]
+#[derive(Clone, Copy)]
 pub struct Written {
     pub refusal: Refusal,
     pub length: usize,

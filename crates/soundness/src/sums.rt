@@ -14,7 +14,7 @@ use units::limits::CORES;
 use units::share::Share;
 
 // Of each core: its load, the weight of its heaviest fixed task, its movers, those whose first core it is, the weight of the heaviest mover.
-#[derive(Drop)]
+#[derive(Clone, Copy)]
 pub(crate) struct Sums {
     pub(crate) loads: [Share; CORES],
     pub(crate) fixed: [Share; CORES],

@@ -10,7 +10,7 @@ use units::share::Share;
 use units::ticks::Ticks;
 
 // A run that is not finished: its core, from 1, and its deadline; 0 and 0 for none.
-#[derive(Drop)]
+#[derive(Clone, Copy)]
 pub struct Run {
     pub core: usize,
     pub deadline: Ticks,

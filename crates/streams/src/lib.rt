@@ -7,7 +7,7 @@ ghost use Rattle.streams.specs.Input.{bytes_of};
 use std::io::{Eprint, Input as Source, Print, Read};
 
 // How many bytes were read, up to the end of the input or of the buffer; or the reading failed.
-#[derive(Drop)]
+#[derive(Clone, Copy)]
 pub enum Input {
     Got(usize),
     Failed,

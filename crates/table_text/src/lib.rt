@@ -18,7 +18,7 @@ pub const NUMBERS: usize = 2_048;
 const BOUND: u64 = 4_294_967_296;
 
 // The core count and how many numbers the table has, or the line that is named.
-#[derive(Drop)]
+#[derive(Clone, Copy)]
 pub enum Reading {
     Read { cores: u32, count: usize },
     Unreadable(usize),

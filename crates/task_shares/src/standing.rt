@@ -5,7 +5,7 @@ ghost use Rattle.task_shares.specs.Standing.{standing_by};
 use units::share::Share;
 
 // Without a share there, as a fixed task, as a lower or as an upper mover.
-#[derive(Drop)]
+#[derive(Clone, Copy)]
 pub enum Standing {
     Absent,
     Fixed,

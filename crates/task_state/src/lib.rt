@@ -13,7 +13,7 @@ use units::ticks::Ticks;
 // how many runs are unfinished, and 1 if it had a release, else 0.
 // No padding, and each number of any value: the record can be lent as it is.
 #[repr(C)]
-#[derive(Drop)]
+#[derive(Clone, Copy)]
 pub struct State {
     pub last: Ticks,
     pub deadlines: [Ticks; RUNS],

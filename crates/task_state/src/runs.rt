@@ -11,7 +11,7 @@ use turn::turn_of;
 use units::ticks::Ticks;
 
 // The task after a release, with the run's core and deadline.
-#[derive(Drop)]
+#[derive(Clone, Copy)]
 pub struct Taken {
     pub state: State,
     pub core: usize,

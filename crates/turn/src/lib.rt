@@ -13,14 +13,14 @@ use units::limits::CORES;
 use units::share::Share;
 
 // The best core so far, from 1 (0: none), and the place by which its next run is due.
-#[derive(Drop)]
+#[derive(Clone, Copy)]
 pub struct Best {
     pub core: usize,
     pub due: u64,
 }
 
 // The core that the run goes to, from 1, and the counts and the place after it.
-#[derive(Drop)]
+#[derive(Clone, Copy)]
 pub struct Turn {
     pub core: usize,
     pub counts: [u32; CORES],

@@ -15,7 +15,7 @@ pub const CLOCK: u64 = 1_000_000_000_000;
 // Unfinished runs of a task, at most.
 pub const RUNS: usize = 8;
 
-#[derive(Drop)]
+#[derive(Clone, Copy)]
 pub struct Limits {
     pub cores: usize,
     pub tasks: usize,

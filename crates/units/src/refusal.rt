@@ -3,7 +3,7 @@ ghost use Rattle.std.specs.Prelude.{◌≡◌};
 ghost use Rattle.units.specs.Refusals.{the_numbers};
 
 // A refusal's number, and what it names: a task, a line of a text, or an arrival. 0 and 0 for none.
-#[derive(Drop)]
+#[derive(Clone, Copy)]
 pub struct Refusal {
     pub no: u32,
     pub named: usize,
@@ -57,7 +57,7 @@ impl Refusal {
     pub const ORDER: u32 = 27;
 }
 
-#[derive(Drop)]
+#[derive(Clone, Copy)]
 pub struct Numbers {
     pub cores: u32,
     pub table: u32,

@@ -5,7 +5,7 @@ ghost use Rattle.units.specs.Limits.{cores_limit, common_limit};
 use crate::limits::{COMMON, CORES};
 
 #[repr(C)]
-#[derive(Drop)]
+#[derive(Clone, Copy)]
 pub struct Share(pub u32);
 
 impl Share {
