@@ -18,14 +18,14 @@ fn room() -> [u8; ANSWERS]
     [0; ANSWERS]
 }
 
-fn main() {
+fn main(rt: HostRuntime) {
     let mut text = [0u8; BYTES];
-    match read_input(&mut text) {
+    match read_input(&rt, &mut text) {
         Input::Failed => {}
         Input::Got(n) => {
             let mut out = room();
             let r = play(&text[0..n], &mut out);
-            write_output(&out[0..r]);
+            write_output(&rt, &out[0..r]);
         }
     }
 }

@@ -43,8 +43,7 @@ fn start(held: Record, cores: u32, table: &[u8]) -> LentStart
 }
 
 // Plans a byte table: 0 and the fresh record, or the refusal.
-#[unsafe(no_mangle)]
-pub extern "C" fn yagomila_start(held: &mut Record, cores: u32, table: &[u8]) -> u32
+pub fn yagomila_start(held: &mut Record, cores: u32, table: &[u8]) -> u32
     ensures { let a = start_or held.old cores table.now in
         (result ≡ a.refusal) × (held.new ≡ a.next) }
 {
@@ -61,8 +60,7 @@ fn release(held: Record, task: usize, time: u64, core: usize, deadline: Ticks) -
 }
 
 // A release: 0 with the run's core and deadline, or the refusal.
-#[unsafe(no_mangle)]
-pub extern "C" fn yagomila_release(
+pub fn yagomila_release(
     held: &mut Record,
     task: usize,
     time: u64,
@@ -87,8 +85,7 @@ fn finish(held: Record, task: usize, time: u64, late: i64) -> Finished
 }
 
 // A finish: 0 with the time less the deadline, or the refusal.
-#[unsafe(no_mangle)]
-pub extern "C" fn yagomila_finish(held: &mut Record, task: usize, time: u64, late: &mut i64) -> u32
+pub fn yagomila_finish(held: &mut Record, task: usize, time: u64, late: &mut i64) -> u32
     ensures { let a = finish_or held.old task time late.old in
         (result ≡ a.refusal) × (held.new ≡ a.next) × (late.new ≡ a.late) }
 {
@@ -106,8 +103,7 @@ fn look(held: Record, core: usize, time: u64, choice: Told) -> LookedTold
 }
 
 // A look: 0 with the core's choice, or the refusal.
-#[unsafe(no_mangle)]
-pub extern "C" fn yagomila_look(held: &mut Record, core: usize, time: u64, choice: &mut Told) -> u32
+pub fn yagomila_look(held: &mut Record, core: usize, time: u64, choice: &mut Told) -> u32
     ensures { let a = look_or held.old core time choice.old in
         (result ≡ a.refusal) × (held.new ≡ a.next) × (choice.new ≡ a.told) }
 {
@@ -141,8 +137,7 @@ fn list_into(held: Record, buf: &mut [u8], len: i64) -> LentList
 }
 
 // The record's listing: 0 with its length in bytes, or the refusal.
-#[unsafe(no_mangle)]
-pub extern "C" fn yagomila_list(held: &Record, buf: &mut [u8], len: &mut i64) -> u32
+pub fn yagomila_list(held: &Record, buf: &mut [u8], len: &mut i64) -> u32
     ensures { let a = list_or held.now buf.old len.old in
         (result ≡ a.refusal) × (buf.new ≡ buffer_after held.now buf.old) × (len.new ≡ a.len) }
 {

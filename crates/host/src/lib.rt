@@ -1,4 +1,4 @@
-// What the box's host, which is written in C, calls. Nothing is kept between calls.
+// What the box's host calls; `host_c` hands each call to C. Nothing is kept between calls.
 #![tactic(auto)]
 
 ghost use Rattle.std.specs.Prelude.{◌≡◌, ◌<◌, ◌^◌, length};
@@ -30,8 +30,7 @@ fn answer_of(listed: Listed) -> i64
 }
 
 // The admission number of a byte table: 0 or a refusal.
-#[unsafe(no_mangle)]
-pub extern "C" fn yagomila_admit(cores: u32, table: &[u8]) -> u32
+pub fn yagomila_admit(cores: u32, table: &[u8]) -> u32
     ensures { result ≡ admit_of cores table.now }
 {
     let held = table_of(table);
@@ -43,8 +42,7 @@ pub extern "C" fn yagomila_admit(cores: u32, table: &[u8]) -> u32
 }
 
 // The listing's length, or the refusal number made negative; on a refusal no byte changes.
-#[unsafe(no_mangle)]
-pub extern "C" fn yagomila_listing(cores: u32, table: &[u8], buf: &mut [u8]) -> i64
+pub fn yagomila_listing(cores: u32, table: &[u8], buf: &mut [u8]) -> i64
     ensures value { result ≡ host_listed cores table.now (length buf.old) }
     ensures buf_after { buf.new ≡ host_after cores table.now buf.old }
 {

@@ -7,14 +7,14 @@ use streams::{Input, read_input, write_output};
 // 4,096 bytes of a table's text, 14 of the line `names 1000000`, 1,023 names of 13, and one more: what is longer is refused by 16, 19 or 17 whatever follows.
 const TEXT: usize = 17_410;
 
-fn main() {
+fn main(rt: HostRuntime) {
     let mut text = [0u8; TEXT];
-    match read_input(&mut text) {
+    match read_input(&rt, &mut text) {
         Input::Failed => {}
         Input::Got(n) => {
             let mut out = [0u8; ANSWER];
             let r = answer(&text[0..n], &mut out);
-            write_output(&out[0..r]);
+            write_output(&rt, &out[0..r]);
         }
     }
 }

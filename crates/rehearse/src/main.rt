@@ -6,6 +6,7 @@ ghost use Rattle.rehearsal_answer.specs.Inner.{piece_length};
 
 use day_text::INPUT;
 use rehearsal_answer::answer;
+use std::io::{Eprint, Print};
 use streams::{Input, read_input, write_output};
 
 // Bytes of a piece, at most.
@@ -26,28 +27,28 @@ fn piece_length(left: usize, room: usize) -> usize
 }
 
 // The answer to an input, piece after piece.
-fn write_pieces(text: &[u8], out: &mut [u8])
+fn write_pieces<R: Print + Eprint>(rt: &R, text: &[u8], out: &mut [u8])
     requires { 0 < length out.old }
 {
     let n = answer(text, 0, out);
     let first = piece_length(n, out.len());
-    write_output(&out[0..first]);
+    write_output(rt, &out[0..first]);
     let mut skip = first;
     while skip < n {
         answer(text, skip, out);
         let more = piece_length(n - skip, out.len());
-        write_output(&out[0..more]);
+        write_output(rt, &out[0..more]);
         skip += more;
     }
 }
 
-fn main() {
+fn main(rt: HostRuntime) {
     let mut text = [0u8; INPUT];
-    match read_input(&mut text) {
+    match read_input(&rt, &mut text) {
         Input::Failed => {}
         Input::Got(n) => {
             let mut out = room();
-            write_pieces(&text[0..n], &mut out);
+            write_pieces(&rt, &text[0..n], &mut out);
         }
     }
 }

@@ -8,14 +8,14 @@ use streams::{Input, read_input, write_output};
 // One byte more than an input may have, so that a longer one is seen as such.
 const BYTES: usize = INPUT + 1;
 
-fn main() {
+fn main(rt: HostRuntime) {
     let mut text = [0u8; BYTES];
-    match read_input(&mut text) {
+    match read_input(&rt, &mut text) {
         Input::Failed => {}
         Input::Got(n) => {
             let mut out = [0u8; TABLE];
             let r = answer_table(&text[0..n], &mut out);
-            write_output(&out[0..r]);
+            write_output(&rt, &out[0..r]);
         }
     }
 }
