@@ -95,6 +95,7 @@ def table():
 
 
 def respell(text, new, keep):
+    text = re.sub("◌[a-z]+[A-Z][A-Za-z]*◌", lambda m: snake(m.group(0)), text)
     return TOKEN.sub(lambda m: m.group(0) if m.group(0) in keep else new.get(m.group(0), m.group(0)), text)
 
 

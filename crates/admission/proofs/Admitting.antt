@@ -16,7 +16,7 @@ use Rattle.arith.proofs.Within.{period_common}
 use Rattle.units.specs.declared.refusal.Refusal.{Refusal}
 use Rattle.admission.specs.Weight.{weights}
 use Rattle.admission.specs.Inner.{Weighable}
-use Rattle.admission.specs.Refusals.{◌orElse◌, input_test, weights_test}
+use Rattle.admission.specs.Refusals.{◌or_else◌, input_test, weights_test}
 use Rattle.units.specs.Refusals.{refusal, taken, period_no, weights_no}
 use Rattle.admission.specs.Admission.{period_test, plan_refusal, refused_with, taken_with, admission_of}
 use Rattle.admission.proofs.First.{decides, leaves}

@@ -2,7 +2,7 @@
 use mathlib.Core.Path.{◌≡◌, sym, ap, ◌∙◌}
 use borrow.Author.Tests.{eq-eqb, ne_eqb}
 use Rattle.units.specs.declared.refusal.Refusal.{Refusal}
-use Rattle.admission.specs.Refusals.{◌orElse◌}
+use Rattle.admission.specs.Refusals.{◌or_else◌}
 
 -- a test x of what a tests that refuses decides
 pub decides : (x a b : Refusal) → x ≡ a → (x.no ≡ 0 → ⊥) → x ≡ (a or_else b)

@@ -10,7 +10,7 @@ use Rattle.arith.specs.declared.period.Period.TheVariants.{Common}
 use Rattle.arith.proofs.Common.{Each}
 use Rattle.arith.proofs.Table.{periods_at, periods_length}
 use Rattle.arith.proofs.Within.{over_period, common_period_lem}
-use Rattle.admission.specs.Refusals.{◌orElse◌, cores_test, table_test, tasks_test, input_test}
+use Rattle.admission.specs.Refusals.{◌or_else◌, cores_test, table_test, tasks_test, input_test}
 use Rattle.units.specs.Refusals.{refusal, taken, cores_no, table_no, range_no, cost_no}
 use Rattle.admission.specs.Admission.{plan_refusal}
 use Rattle.admission.proofs.First.{decides, leaves}

@@ -11,7 +11,7 @@ use borrow.Author.Tests.{eqb-true, eqb-false, ltb-false}
 use Rattle.units.specs.Limits.{cores_limit, tasks_limit, period_limit}
 use Rattle.lists.proofs.Tests.{by_cases, or_false_left, or_false_right}
 use Rattle.units.specs.declared.refusal.Refusal.{Refusal}
-use Rattle.admission.specs.Refusals.{◌orElse◌, cores_test, table_test, task_test, tasks_test, input_test}
+use Rattle.admission.specs.Refusals.{◌or_else◌, cores_test, table_test, task_test, tasks_test, input_test}
 use Rattle.units.specs.Refusals.{refusal, taken, cost_no}
 
 -- neither of two tests refuses

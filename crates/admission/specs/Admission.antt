@@ -7,7 +7,7 @@ use Rattle.arith.specs.Period.{periods, common, period_of}
 use Rattle.arith.specs.declared.period.Period.{Period}
 use Rattle.arith.specs.declared.period.Period.TheVariants.{Common, Over}
 use Rattle.admission.specs.Weight.{weights, padded}
-use Rattle.admission.specs.Refusals.{◌orElse◌, input_test, weights_test}
+use Rattle.admission.specs.Refusals.{◌or_else◌, input_test, weights_test}
 use Rattle.units.specs.Refusals.{refusal, taken, period_no}
 use Rattle.units.specs.declared.refusal.Refusal.{Refusal}
 use Rattle.admission.specs.declared.admit.Admission.{Admission}

@@ -6,8 +6,8 @@ use Rattle.units.specs.declared.refusal.Refusal.{Refusal}
 use Rattle.units.specs.Refusals.{refusal, cores_no, table_no, range_no, taken, weights_no, cost_no}
 
 -- the first of two tests that refuses
-infixr 20 ◌orElse◌
-abbrev pub ◌orElse◌ : Refusal → Refusal → Refusal
+infixr 20 ◌or_else◌
+abbrev pub ◌or_else◌ : Refusal → Refusal → Refusal
 a or_else b = cond (eqb a.no 0) b a
 
 -- 1: core count 0 or above 16

@@ -2,7 +2,7 @@
 use Rattle.std.specs.Prelude.{ℕ, zero, suc, ◌+◌, ◌*◌, ◌/◌, cond, ◌||◌, List, ltb, leb, eqb, length, get_or}
 use Rattle.units.specs.Refusals.{refusal, taken, arrival_no, length_no, order_no}
 use Rattle.units.specs.declared.refusal.Refusal.{Refusal}
-use Rattle.admission.specs.Refusals.{◌orElse◌}
+use Rattle.admission.specs.Refusals.{◌or_else◌}
 use Rattle.planning.specs.Tasks.{task_line}
 use Rattle.planning.specs.declared.Plan.{Plan}
 use Rattle.call_tests.specs.Tests.{outside}

@@ -9,7 +9,7 @@ use lib.ListN.{length, length-map}
 use borrow.Author.Tests.{lt-ltb, ne_eqb, ltb-true, ltb-false, eqb-true}
 use Rattle.lists.proofs.Tests.{by_cases, or_false_right}
 use Rattle.units.specs.Limits.{period_limit}
-use Rattle.admission.specs.Refusals.{◌orElse◌, cores_test, table_test, task_test, tasks_test, input_test}
+use Rattle.admission.specs.Refusals.{◌or_else◌, cores_test, table_test, task_test, tasks_test, input_test}
 use Rattle.admission.specs.Admission.{plan_refusal}
 use Rattle.admission.proofs.Kept.{neither, tasks_fine, kept}
 use Rattle.planning.specs.Plan.{plan_of, refused_plan}
@@ -49,7 +49,7 @@ task_held i c t =
 tasks_held : (i : ℕ) (xs : List ℕ) → tasks_test i (map held xs) ≡ tasks_test i xs
 tasks_held i [] = refl
 tasks_held i (c ∷ []) = refl
-tasks_held i (c ∷ t ∷ xs) = ap₂ ◌orElse◌ (task_held i c t) (tasks_held (suc i) xs)
+tasks_held i (c ∷ t ∷ xs) = ap₂ ◌or_else◌ (task_held i c t) (tasks_held (suc i) xs)
 
 -- every number of whole tasks that none of them refuses is held as itself
 whole_held : (i : ℕ) (xs : List ℕ) → length xs % 2 ≡ 0 → (tasks_test i xs).no ≡ 0 → map held xs ≡ xs

@@ -12,7 +12,7 @@ use Rattle.units.specs.declared.refusal.Refusal.{Refusal}
 use Rattle.units.specs.Refusals.{refusal, taken, sheet_no, name_no, tick_no}
 use Rattle.arith.specs.Period.{periods, common, period_of}
 use Rattle.admission.specs.Weight.{weights}
-use Rattle.admission.specs.Refusals.{◌orElse◌, input_test, weights_test}
+use Rattle.admission.specs.Refusals.{◌or_else◌, input_test, weights_test}
 use Rattle.admission.specs.Admission.{period_test, plan_refusal, refused_with, taken_with, admission_of}
 use Rattle.admission.specs.declared.admit.Admission.{Admission}
 use Rattle.admission.proofs.First.{decides, leaves}

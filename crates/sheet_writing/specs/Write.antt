@@ -2,7 +2,7 @@
 use Rattle.std.specs.Prelude.{ℕ, ◌*◌, ◌/◌, cond, List, [], ◌∷◌, ◌++◌, leb, eqb, length, drop}
 use Rattle.units.specs.declared.refusal.Refusal.{Refusal}
 use Rattle.units.specs.Refusals.{refusal, taken, buffer_no, sheet_no, name_no, tick_no}
-use Rattle.admission.specs.Refusals.{◌orElse◌}
+use Rattle.admission.specs.Refusals.{◌or_else◌}
 use Rattle.admission.specs.Admission.{plan_refusal}
 use Rattle.name_list.specs.Names.{twice, names_of, names_said}
 use Rattle.name_list.specs.declared.Names.{Names}

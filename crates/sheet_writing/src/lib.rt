@@ -4,7 +4,7 @@
 ghost use Rattle.std.specs.Prelude.{◌≡◌, ◌*◌, ◌+◌, ◌≤◌, length};
 ghost use Rattle.units.specs.Limits.{tasks_limit};
 ghost use Rattle.units.specs.Refusals.{refusal as refusal_of};
-ghost use Rattle.admission.specs.Refusals.{◌orElse◌};
+ghost use Rattle.admission.specs.Refusals.{◌or_else◌};
 ghost use Rattle.name_list.specs.Names.{names_of, names_said};
 ghost use Rattle.writing.specs.Inner.{place_limit};
 ghost use Rattle.writing.specs.Wrote.{Wrote};

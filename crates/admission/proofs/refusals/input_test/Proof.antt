@@ -1,6 +1,6 @@
 -- `admission::refusals::input_test` meets its contract.
 use Rattle.admission.proofs.First.{decides, leaves}
-use Rattle.admission.specs.Refusals.{cores_test, table_test, tasks_test, input_test, ◌orElse◌}
+use Rattle.admission.specs.Refusals.{cores_test, table_test, tasks_test, input_test, ◌or_else◌}
 use borrow.Author.Rules.{rules}
 use Rattle.admission.proofs.refusals.input_test.Statement.{statement}
 use Rattle.admission.proofs.refusals.input_test.Tie as tie
