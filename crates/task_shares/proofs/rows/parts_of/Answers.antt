@@ -1,0 +1,36 @@
+-- `task_shares::rows::parts_of` meets its contract: the parts that are passed and those that are left are all.
+use Prim.Native.Nat.{◌+◌, ◌-◌, ◌≤◌}
+use mathlib.Core.Path.{◌≡◌, ap}
+use mathlib.Core.Logic.{⊎_elim}
+use native.Mathlib.Omega.{arith}
+use lib.ListN.{length, drop}
+use borrow.Author.Rules.{rules}
+use Rattle.units.specs.Limits.{cores_limit}
+use Rattle.units.specs.Units.{nums}
+use Rattle.lists.specs.Lists.{parts as parts_of}
+use Rattle.task_shares.proofs.RowPassed.{parts_more, parts_same, none_left}
+use Rattle.task_shares.proofs.rows.parts_of.Goals as goal
+
+pub loop-p-init : goal.loop-p-init
+loop-p-init c = omega arith
+
+pub offset_bounds-shares-p : goal.offset_bounds-shares-p
+offset_bounds-shares-p c = omega arith
+
+pub bounds-shares-p : goal.bounds-shares-p
+bounds-shares-p c = omega arith
+
+pub overflow_add-parts : goal.overflow_add-parts
+overflow_add-parts c = omega arith
+
+pub overflow_add-p : goal.overflow_add-p
+overflow_add-p c = omega arith
+
+pub loop-p-smaller : goal.loop-p-smaller
+loop-p-smaller c = omega arith
+
+pub returns : goal.returns
+returns c =
+    let ss = c.args.shares in
+    let l : length ss ≡ cores_limit = search rules in
+    omega (arith, ap parts_of (none_left ss c.loop-p.p (omega arith)))

@@ -1,0 +1,18 @@
+-- `task_shares::rows::parts_of` meets its contract: the parts that are passed and those that are left are all.
+use Prim.Native.Nat.{◌+◌, ◌-◌, ◌≤◌}
+use mathlib.Core.Path.{◌≡◌, ap}
+use mathlib.Core.Logic.{⊎_elim}
+use native.Mathlib.Omega.{arith}
+use lib.ListN.{length, drop}
+use borrow.Author.Rules.{rules}
+use Rattle.units.specs.Limits.{cores_limit}
+use Rattle.units.specs.Units.{nums}
+use Rattle.lists.specs.Lists.{parts as parts_of}
+use Rattle.task_shares.proofs.RowPassed.{parts_more, parts_same, none_left}
+use Rattle.task_shares.proofs.rows.parts_of.Given as goal
+
+abbrev pub invariant-loop-p : goal.invariant-loop-p
+invariant-loop-p l = (l.p ≤ cores_limit) × (l.parts ≤ l.p) × (l.parts + parts_of (drop l.p (nums l.shares)) ≡ parts_of (nums l.shares))
+
+abbrev pub decreases-loop-p : goal.decreases-loop-p
+decreases-loop-p l = cores_limit - l.p
