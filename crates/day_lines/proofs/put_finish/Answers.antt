@@ -1,0 +1,16 @@
+-- `day_lines::put_finish` meets its contract.
+use mathlib.Core.Path.{ap}
+use mir.Syntax.{w64}
+use mir.ValLaws.{to_z-of_z}
+use Rattle.writing.specs.Decimal.{signed_of}
+use Rattle.writing.proofs.Wrote.{then, recast}
+use Rattle.day_lines.specs.Lines.{finish_text}
+use borrow.Author.Rules.{rules}
+use Rattle.day_lines.proofs.put_finish.Goals as goal
+
+pub returns : goal.returns
+unfolding finish_text
+returns c =
+    let w = then (then c.put_ran-a.ensures.wrote c.put_field-b.ensures.wrote) c.put_text-c.ensures in
+    let l = recast (ap signed_of (to_z-of_z w64 c.args.late c.ranges.late)) c.put_signed-d.ensures.wrote in
+    (then (then w l) c.put_byte.ensures, search rules)

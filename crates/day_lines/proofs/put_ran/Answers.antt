@@ -1,0 +1,8 @@
+-- `day_lines::put_ran` meets its contract.
+use Rattle.writing.proofs.Wrote.{then}
+use borrow.Author.Rules.{rules}
+use Rattle.day_lines.proofs.put_ran.Goals as goal
+
+pub returns : goal.returns
+returns c =
+    (then (then c.put_field-a.ensures.wrote c.put_field-b.ensures.wrote) c.put_field.ensures.wrote, search rules)

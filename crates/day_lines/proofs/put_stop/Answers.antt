@@ -1,0 +1,10 @@
+-- `day_lines::put_stop` meets its contract.
+use Rattle.writing.proofs.Wrote.{then}
+use Rattle.day_lines.specs.Lines.{stop_text}
+use borrow.Author.Rules.{rules}
+use Rattle.day_lines.proofs.put_stop.Goals as goal
+
+pub returns : goal.returns
+unfolding stop_text
+returns c =
+    (then c.put_field-a.ensures.wrote c.put_byte.ensures, search rules)

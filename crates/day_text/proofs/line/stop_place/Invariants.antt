@@ -1,0 +1,13 @@
+-- `day_text::line::stop_place` meets its contract.
+use Prim.Native.Nat.{◌-◌}
+use mathlib.Core.Path.{sym, ◌∙◌}
+use lib.ListN.{length}
+use Rattle.day_text.proofs.Places.{Seeking, first, found, passed, none}
+use borrow.Author.Rules.{rules}
+use Rattle.day_text.proofs.line.stop_place.Given as goal
+
+abbrev pub invariant-loop-at : goal.invariant-loop-at
+invariant-loop-at l = Seeking l.text l.at
+
+abbrev pub decreases-loop-at : goal.decreases-loop-at
+decreases-loop-at l = length l.text - l.at

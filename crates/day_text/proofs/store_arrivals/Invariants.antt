@@ -1,0 +1,13 @@
+-- `day_text::store_arrivals` meets its contract.
+use Prim.Native.Nat.{◌-◌}
+use mathlib.Core.Path.{sym, ◌∙◌}
+use Rattle.day_text.specs.Input.{lines_limit}
+use Rattle.day_text.proofs.Kept.{Kept, start, more, ended, full}
+use borrow.Author.Rules.{rules}
+use Rattle.day_text.proofs.store_arrivals.Given as goal
+
+abbrev pub invariant-loop-i : goal.invariant-loop-i
+invariant-loop-i l = Kept lines_limit l.text l.from l.initial.arrivals l.arrivals l.i l.at
+
+abbrev pub decreases-loop-i : goal.decreases-loop-i
+decreases-loop-i l = lines_limit - l.i

@@ -1,0 +1,13 @@
+-- `day_window::put_cut` meets its contract.
+use Rattle.day_window.proofs.Windows.{cut, past}
+use borrow.Author.Rules.{rules}
+use Rattle.day_window.proofs.put_cut.Goals as goal
+
+pub returns-then-skipped-n : goal.returns-then-skipped-n
+returns-then-skipped-n c =
+    let w = c.put_text in
+    (cut {b = w.new.0} {k = w.result} c.put_event-n.ensures.wrote (search rules) c.if-skipped-n.true w.ensures, search rules)
+
+pub returns-else-skipped-n : goal.returns-else-skipped-n
+returns-else-skipped-n c =
+    (past c.put_event-n.ensures.wrote c.if-skipped-n.false, search rules)

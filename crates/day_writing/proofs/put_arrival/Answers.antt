@@ -1,0 +1,15 @@
+-- `day_writing::put_arrival` meets its contract.
+use mathlib.Core.Path.{refl}
+use Rattle.day_window.proofs.Windows.{none, recast}
+use Rattle.day_window.proofs.Saying.{told}
+use Rattle.day_writing.proofs.Said.{taken, refused}
+use borrow.Author.Rules.{rules}
+use Rattle.day_writing.proofs.put_arrival.Goals as goal
+
+pub returns-then-no-eq0 : goal.returns-then-no-eq0
+returns-then-no-eq0 c = let s = c.args in (recast (taken s.arrival s.task s.time c.if-no-eq0.true) (none _ _ _), search rules)
+
+pub returns : goal.returns
+returns c =
+    let s = c.args in
+    (told (refused s.arrival s.task s.time c.if-no-eq0.false) c.put_within.ensures.windowed refl, search rules)

@@ -1,0 +1,95 @@
+-- `dispatch::Record::release_or` meets its contract.
+use Rattle.dispatch.proofs.Called.{TaskCall, task_call}
+use Rattle.dispatch.proofs.Answers.{release_first, release_or_refused, release_or_taken}
+use Rattle.dispatch.specs.Refusals.{task_tests, release_refusal}
+use Rattle.units.specs.declared.ticks.Ticks.{Ticks}
+use Rattle.task_state.specs.declared.runs.Taken.{Taken}
+use Rattle.task_state.specs.Runs.{taken_run}
+use Rattle.dispatch.specs.declared.Record.{Record}
+use Rattle.dispatch.specs.Record.{line_at, state_at}
+use Rattle.dispatch.specs.Release.{release_or}
+use Prim.Native.Nat.{ℕ, ◌-◌}
+use lib.ListN.{set}
+use native.Mathlib.Omega.{arith}
+use mathlib.Core.Path.{◌≡◌, sym, ◌∙◌}
+use borrow.Author.Rules.{rules}
+use Rattle.dispatch.proofs.Record.release_or.Goals.{After-due-1, After-release_tests-no, After-shared_tests-no, Start, Then-no-eq0, Then-no-eq0-2}
+use Rattle.dispatch.proofs.Record.release_or.Goals as goal
+
+-- the places where the call begins, where it has passed the tests of every call, and where it has passed its own
+abbrev start : Then-no-eq0 → Start
+start c = c.?
+
+abbrev passed : After-release_tests-no → Then-no-eq0
+passed c = c.?
+
+abbrev taken : After-due-1 → Then-no-eq0-2
+taken c = c.?
+
+-- what was tested first
+first : (c : After-shared_tests-no) → let s = c.args in c.shared_tests-no.result ≡ task_tests s.t1 s.task s.time.0
+unfolding task_tests
+first c = rw c.sound-sound.ensures at c.shared_tests-no.ensures
+
+-- what is known after that
+known : (c : Then-no-eq0) → let s = (start c).args in TaskCall s.t1 s.task s.time.0
+known c = task_call (sym (first c.?) ∙ c.if-no-eq0.true)
+
+-- the release's number
+own : (c : After-release_tests-no) → let s = (start (passed c)).args in c.release_tests-no.result ≡ release_refusal s.t1 s.task s.time.0
+own c = c.release_tests-no.ensures ∙ sym (known (passed c)).release_number
+
+-- a release that is taken at this time as run x, field by field
+release_told : (r : Record) (i : ℕ) (time : Ticks) (core : ℕ) (deadline : Ticks) {n : ℕ} {x : Taken} → n ≡ release_refusal r i time.0 → n ≡ 0
+    → x ≡ taken_run (line_at r (i - 1)) (state_at r (i - 1)) time.0 → record {
+      refusal = n;
+      core = x.core;
+      deadline = x.deadline;
+      next = record { plan = r.plan; clock = time; states = set r.states (i - 1) x.state };
+    }
+    ≡ release_or r i time.0 core deadline
+release_told r i time core deadline q e w = sym (release_or_taken r i time.0 core deadline q e w)
+
+pub overflow_sub-i : goal.overflow_sub-i
+overflow_sub-i c = omega (arith, (known c).from)
+
+pub offset_bounds-lines-i : goal.offset_bounds-lines-i
+offset_bounds-lines-i c = omega (arith, (known (goal.at.offset_bounds-lines-i c).Then-no-eq0).below)
+
+pub bounds-lines-i : goal.bounds-lines-i
+bounds-lines-i c = omega (arith, (known (goal.at.bounds-lines-i c).Then-no-eq0).below)
+
+pub offset_bounds-self-i : goal.offset_bounds-self-i
+offset_bounds-self-i c = omega (arith, (known (goal.at.offset_bounds-self-i c).Then-no-eq0).below)
+
+pub bounds-self-i : goal.bounds-self-i
+bounds-self-i c = omega (arith, (known (goal.at.bounds-self-i c).Then-no-eq0).below)
+
+pub release_tests-no-requires : goal.release_tests-no-requires
+release_tests-no-requires c = (known (goal.at.release_tests-no-requires c).Then-no-eq0).last
+
+pub with_run-taken-requires : goal.with_run-taken-requires
+with_run-taken-requires c = (known (passed c.?)).can_release (sym c.release_tests-no.ensures ∙ c.if-no-eq0-2.true)
+
+pub offset_bounds-self-i-then-no-eq0-2 : goal.offset_bounds-self-i-then-no-eq0-2
+offset_bounds-self-i-then-no-eq0-2 c = omega (arith, (known (passed (taken c).before)).below)
+
+pub bounds-self-i-then-no-eq0-2 : goal.bounds-self-i-then-no-eq0-2
+bounds-self-i-then-no-eq0-2 c = omega (arith, (known (passed (taken c).before)).below)
+
+pub returns-then-no-eq0-2 : goal.returns-then-no-eq0-2
+returns-then-no-eq0-2 c =
+    let k = taken c in
+    let s = (start (passed k.before)).args in
+    release_told s.t1 s.task s.time s.core s.deadline (own k.before) k.if2.taken c.with_run-taken.ensures
+
+pub returns-else-no-eq0-2 : goal.returns-else-no-eq0-2
+returns-else-no-eq0-2 c =
+    let s = (start (passed c.?)).args in
+    sym (release_or_refused s.t1 s.task s.time.0 s.core s.deadline (own (goal.at.returns-else-no-eq0-2 c).After-release_tests-no) c.if-no-eq0-2.false)
+
+pub returns-else-no-eq0 : goal.returns-else-no-eq0
+returns-else-no-eq0 c =
+    let s = c.args in
+    let n = release_first s.t1 s.task s.time.0 (first (goal.at.returns-else-no-eq0 c).After-shared_tests-no) c.if-no-eq0.false in
+    sym (release_or_refused s.t1 s.task s.time.0 s.core s.deadline n c.if-no-eq0.false)

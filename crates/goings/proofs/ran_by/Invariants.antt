@@ -1,0 +1,20 @@
+-- `goings::ran_by` meets its contract.
+use Prim.Native.Nat.{◌+◌, ◌-◌, ◌*◌, ◌≤◌}
+use mathlib.Core.Path.{◌≡◌, refl, sym, ap, ◌∙◌}
+use mathlib.Core.Logic.{⊎_elim}
+use native.Mathlib.Omega.{arith}
+use borrow.Author.Rules.{rules}
+use lib.ListN.{length, get_or}
+use Rattle.units.specs.Limits.{tasks_limit, clock_limit}
+use Rattle.goings.specs.declared.Going.{Going}
+use Rattle.goings.specs.Going.{no_going, ran_by}
+use Rattle.goings.specs.Rows.{goings_in}
+use Rattle.goings.proofs.Ran.{ran_fits, ran_more, ran_same}
+use Rattle.goings.proofs.Rows.{goings_at}
+use Rattle.goings.proofs.ran_by.Given as goal
+
+abbrev pub invariant-loop-core : goal.invariant-loop-core
+invariant-loop-core l = (l.core ≤ l.cores) × (length l.had ≡ tasks_limit) × (l.had ≡ ran_by (goings_in l.goings) l.more l.initial.had l.core)
+
+abbrev pub decreases-loop-core : goal.decreases-loop-core
+decreases-loop-core l = l.cores - l.core

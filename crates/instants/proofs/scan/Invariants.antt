@@ -1,0 +1,26 @@
+-- `instants::scan` meets its contract.
+use Prim.Native.Nat.{◌-◌, ◌≤◌, ◌<◌}
+use mathlib.Core.Path.{◌≡◌, refl, sym, ◌∙◌}
+use mathlib.Core.Logic.{⊎_elim}
+use native.Mathlib.Omega.{arith}
+use borrow.Author.Rules.{rules}
+use lib.ListN.{length, get_or}
+use Rattle.units.specs.Limits.{cores_limit}
+use Rattle.units.specs.Units.{ticks}
+use Rattle.fronts.specs.Front.{no_front}
+use Rattle.front_rows.specs.Rows.{fronts_in}
+use Rattle.front_rows.proofs.Rows.{fronts_at}
+use Rattle.instants.specs.Seen.{seen_of, next_of}
+use Rattle.instants.proofs.Steps.{seen_more, seen_less, next_more}
+use Rattle.instants.proofs.Scanned.{sees_core}
+use Rattle.instants.proofs.scan.Given as goal
+
+abbrev pub invariant-loop-i : goal.invariant-loop-i
+invariant-loop-i l =
+    (l.i ≤ l.count)
+    × (length l.seen ≡ cores_limit)
+    × (l.seen ≡ seen_of (fronts_in l.fronts) l.had l.time.0 l.i)
+    × (l.next ≡ ticks (next_of (fronts_in l.fronts) l.time.0 l.initial.next.0 l.i))
+
+abbrev pub decreases-loop-i : goal.decreases-loop-i
+decreases-loop-i l = l.count - l.i

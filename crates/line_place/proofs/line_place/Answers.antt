@@ -1,0 +1,21 @@
+-- `line_place::line_place` meets its contract.
+use Prim.Native.Nat.{◌-◌}
+use mathlib.Core.Path.{sym, ◌∙◌}
+use lib.ListN.{length}
+use Rattle.line_place.proofs.Places.{Seeking, first, found, passed, none}
+use borrow.Author.Rules.{rules}
+use Rattle.line_place.proofs.line_place.Goals as goal
+
+pub loop-at-init : goal.loop-at-init
+loop-at-init c = first _ _
+
+pub returns-then-line_here : goal.returns-then-line_here
+returns-then-line_here c =
+    (found _ _ _ c.loop-at.invariant c.loop-at-test.true (sym c.line_here.ensures ∙ c.if-line_here.true), search rules)
+
+pub loop-at-preserved : goal.loop-at-preserved
+loop-at-preserved c =
+    passed _ _ _ c.loop-at.invariant c.loop-at-test.true (sym c.line_here.ensures ∙ c.if-line_here.false)
+
+pub returns : goal.returns
+returns c = (none _ _ _ c.loop-at.invariant c.loop-at-test.false, c.loop-at.invariant.within)

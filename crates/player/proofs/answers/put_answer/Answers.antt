@@ -1,0 +1,37 @@
+-- `player::answers::put_answer` meets its contract.
+use mathlib.Core.Path.{sym, ap, ◌∙◌}
+use mathlib.Core.List.{◌++◌}
+use mir.Syntax.{w64}
+use mir.Val.{SFits}
+use mir.ValLaws.{to_z-of_z}
+use Rattle.writing.specs.Ascii.{ascii}
+use Rattle.writing.specs.Decimal.{signed_of}
+use Rattle.writing.specs.Field.{line_end}
+use Rattle.writing.proofs.Wrote.{then, recast}
+use Rattle.player.specs.Answers.{answer_line}
+use borrow.Author.Rules.{rules}
+use Rattle.player.proofs.answers.put_answer.Goals as goal
+
+pub returns-in-Refused : goal.returns-in-Refused
+unfolding answer_line
+returns-in-Refused c =
+    (recast (sym (ap answer_line c.answer-1.given.1)) c.put_refusal.ensures.wrote, search rules)
+
+pub returns-in-Released : goal.returns-in-Released
+unfolding answer_line
+returns-in-Released c =
+    let w = then (then c.put_field-a.ensures.wrote c.put_field-b.ensures.wrote) c.put_byte.ensures in
+    (recast (sym (ap answer_line c.answer-in-Released-1.given.1)) w, search rules)
+
+pub returns-in-Finished : goal.returns-in-Finished
+unfolding answer_line
+returns-in-Finished c =
+    let z = c.answer-in-Finished-1.given.0.0 in
+    let f : SFits w64 z = search rules in
+    let e = ap (λ l. ascii "late " ++ signed_of l ++ line_end) (to_z-of_z w64 z f) ∙ sym (ap answer_line c.answer-in-Finished-1.given.1) in
+    (recast e (then (then c.put_text-a.ensures c.put_signed-b.ensures.wrote) c.put_byte-in-Finished.ensures), search rules)
+
+pub returns-in-Looked : goal.returns-in-Looked
+unfolding answer_line
+returns-in-Looked c =
+    (recast (sym (ap answer_line c.answer-in-Looked-1.given.1)) (then c.put_choice-a.ensures.wrote c.put_byte-in-Looked.ensures), search rules)

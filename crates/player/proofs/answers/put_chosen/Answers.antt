@@ -1,0 +1,8 @@
+-- `player::answers::put_chosen` meets its contract.
+use Rattle.writing.proofs.Wrote.{then}
+use borrow.Author.Rules.{rules}
+use Rattle.player.proofs.answers.put_chosen.Goals as goal
+
+pub returns : goal.returns
+returns c =
+    (then c.put_field-a.ensures.wrote c.put_field.ensures.wrote, search rules)

@@ -1,0 +1,14 @@
+-- `player::played::play_line` meets its contract.
+use Rattle.player.proofs.Plays.{line_called, line_none}
+use borrow.Author.Rules.{rules}
+use Rattle.player.proofs.played.play_line.Goals as goal
+
+pub returns-in-Called : goal.returns-in-Called
+returns-in-Called c =
+    let l = line_called _ c.line-1.given.1 c.call-answered.ensures c.put_answer-end.ensures.wrote in
+    (l.0, (l.1, search rules))
+
+pub returns-in-NoCall : goal.returns-in-NoCall
+returns-in-NoCall c =
+    let l = line_none _ _ _ c.enum_told-1.given.1 in
+    (l.0, (l.1, search rules))

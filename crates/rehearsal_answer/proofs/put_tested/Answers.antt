@@ -1,0 +1,22 @@
+-- `rehearsal_answer::put_tested` meets its contract.
+use mathlib.Core.Path.{refl}
+use Rattle.day_window.proofs.Windows.{recast}
+use Rattle.rehearsal_answer.proofs.Texts.{due, arrival_refused, line_left, day_follows, rehearsable}
+use borrow.Author.Rules.{rules}
+use Rattle.rehearsal_answer.proofs.put_tested.Goals as goal
+
+pub returns-then-refusal-ne0 : goal.returns-then-refusal-ne0
+returns-then-refusal-ne0 c =
+    due (arrival_refused _ _ _ _ c.arrivals_refusal-refusal.ensures c.if-refusal-ne0.true) c.put_refusal_within.ensures refl
+
+pub returns-then-more : goal.returns-then-more
+returns-then-more c =
+    due (line_left _ _ _ _ c.arrivals_refusal-refusal.ensures c.if-refusal-ne0.false c.if-more.true) c.put_refusal_within-then-more.ensures refl
+
+pub write_day-requires : goal.write_day-requires
+write_day-requires c =
+    rehearsable _ _ _ c.arrivals_refusal-refusal.ensures c.if-refusal-ne0.false c.requires
+
+pub returns : goal.returns
+returns c =
+    recast (day_follows _ _ _ _ c.arrivals_refusal-refusal.ensures c.if-refusal-ne0.false c.if-more.false) c.write_day.ensures.windowed

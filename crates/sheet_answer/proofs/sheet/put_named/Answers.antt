@@ -1,0 +1,12 @@
+-- `sheet_answer::sheet::put_named` meets its contract.
+use native.Mathlib.Omega.{arith}
+use Rattle.sheet_answer.proofs.NameLines.{line_wrote}
+use borrow.Author.Rules.{rules}
+use Rattle.sheet_answer.proofs.sheet.put_named.Goals as goal
+
+pub returns : goal.returns
+returns c =
+    (
+      line_wrote _ _ c.put_field-a.ensures.wrote c.put_byte-b.ensures c.put_text-c.ensures c.put_byte.ensures,
+      omega (arith, c.put_field-a.ensures.upper_bound, c.put_byte-b.ensures.end, c.put_text-c.ensures.end, c.put_byte.ensures.end),
+    )

@@ -1,0 +1,22 @@
+-- `sheet_answer::table::answer_table` meets its contract.
+use native.Mathlib.Omega.{arith}
+use Rattle.writing.proofs.Wrote.{recast}
+use Rattle.sheet_answer.specs.Answers.{table_lines, table_text}
+use Rattle.sheet_answer.proofs.Answered.{listable, answer_no, answer_is}
+use borrow.Author.Rules.{rules}
+use Rattle.sheet_answer.proofs.table.answer_table.Goals as goal
+
+pub returns-then-refusal-ne0 : goal.returns-then-refusal-ne0
+unfolding table_text
+returns-then-refusal-ne0 c =
+    let e = c.read_input-sheet.ensures in
+    (recast (answer_no table_lines e c.if-refusal-ne0.true) c.put_refusal.ensures.wrote, omega (arith, c.put_refusal.ensures.upper_bound))
+
+pub put_plan-requires : goal.put_plan-requires
+put_plan-requires c =
+    (listable _ c.read_input-sheet.ensures c.if-refusal-ne0.false).tasks
+
+pub returns : goal.returns
+unfolding table_text table_lines
+returns c =
+    (recast (answer_is table_lines c.read_input-sheet.ensures c.if-refusal-ne0.false) c.put_plan.ensures.wrote, c.put_plan.ensures.upper_bound)

@@ -1,0 +1,12 @@
+-- `sheet_answer::table::put_task` meets its contract.
+use native.Mathlib.Omega.{arith}
+use Rattle.writing.proofs.Wrote.{then}
+use borrow.Author.Rules.{rules}
+use Rattle.sheet_answer.proofs.table.put_task.Goals as goal
+
+pub returns : goal.returns
+returns c =
+    (
+      then (then c.put_number-a.ensures.wrote c.put_field-b.ensures.wrote) c.put_byte.ensures,
+      omega (arith, c.put_number-a.ensures.upper_bound, c.put_field-b.ensures.upper_bound, c.put_byte.ensures.end),
+    )

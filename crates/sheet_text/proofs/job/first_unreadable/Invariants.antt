@@ -1,0 +1,17 @@
+-- `sheet_text::job::first_unreadable` meets its contract.
+use borrow.Author.Rules.{rules}
+use Prim.Native.Nat.{◌+◌, ◌-◌}
+use mathlib.Core.Path.{sym, ◌∙◌, ap}
+use lib.ListN.{length}
+use native.Mathlib.Omega.{arith}
+use Rattle.scanning.specs.Lines.{pair_end}
+use Rattle.scanning.proofs.Sought.{Sought, first, later, here, ended}
+use Rattle.sheet_text.specs.Job.{job_end}
+use Rattle.sheet_text.proofs.Jobs.{job_kept}
+use Rattle.sheet_text.proofs.job.first_unreadable.Given as goal
+
+abbrev pub invariant-loop-at : goal.invariant-loop-at
+invariant-loop-at l = Sought (job_end l.sheet) (length l.sheet) 2 l.from l.line l.at
+
+abbrev pub decreases-loop-at : goal.decreases-loop-at
+decreases-loop-at l = length l.sheet + 2 - l.line

@@ -1,0 +1,6 @@
+-- `soundness::lines::line_empty` meets its contract.
+use borrow.Author.Rules.{rules}
+use Rattle.soundness.proofs.lines.line_empty.Goals as goal
+
+pub returns : goal.returns
+returns c = rw c.sum_of-sum.ensures

@@ -1,0 +1,6 @@
+-- `soundness::lines::shares_sum` meets its contract.
+use borrow.Author.Rules.{rules}
+use Rattle.soundness.proofs.lines.shares_sum.Goals as goal
+
+pub returns : goal.returns
+returns c = rw c.sum_of.ensures

@@ -1,0 +1,20 @@
+-- `state_rules::runs_empty` meets its contract.
+use Prim.Native.Nat.{◌-◌, ◌≤◌}
+use mathlib.Core.Path.{◌≡◌, sym, ◌∙◌}
+use mathlib.Core.Bool.{true}
+use native.Mathlib.Omega.{arith}
+use borrow.Author.Rules.{rules}
+use borrow.Author.Tests.{not-true, not-false}
+use Rattle.units.specs.Limits.{runs_limit}
+use Rattle.lists.specs.Below.{all_below}
+use Rattle.lists.proofs.Below.{all_none, all_more, all_fails}
+use Rattle.task_state.specs.State.{run_at}
+use Rattle.stored_runs.specs.Run.{run_empty}
+use Rattle.state_rules.proofs.runs_empty.Given as goal
+
+-- the runs so far are empty
+abbrev pub invariant-loop-k : goal.invariant-loop-k
+invariant-loop-k l = (l.k ≤ runs_limit) × (all_below l.k (λ j. run_empty (run_at l.state j)) ≡ true)
+
+abbrev pub decreases-loop-k : goal.decreases-loop-k
+decreases-loop-k l = runs_limit - l.k
