@@ -2,7 +2,6 @@
 use Prim.Native.Nat.{◌-◌}
 use mathlib.Core.Path.{sym}
 use native.Mathlib.Omega.{arith}
-use borrow.Author.Rules.{rules}
 use Rattle.lists.proofs.Lists.{get_or_le_sum}
 use Rattle.turn.proofs.Counting.{counted_last, counted_more}
 use Rattle.turn.proofs.counted.Goals as goal

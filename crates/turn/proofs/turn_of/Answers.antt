@@ -1,15 +1,12 @@
 -- `turn::turn_of` meets its contract.
-use Prim.Native.Nat.{suc, ◌≤◌, ◌-◌}
 use mathlib.Core.Path.{◌≡◌, refl, sym, ap, ◌∙◌}
 use native.Mathlib.Numerals.{add-one}
 use native.Mathlib.Omega.{arith}
-use borrow.Author.Rules.{rules}
-use lib.ListN.{length, drop}
 use Rattle.units.specs.Limits.{cores_limit}
 use Rattle.units.specs.Units.{nums}
 use Rattle.units.proofs.Units.{nums_long, nums_at}
 use Rattle.turn.specs.declared.Best.{Best}
-use Rattle.turn.specs.Turn.{best_from, nobody, core_of, counted, turn_of}
+use Rattle.turn.specs.Turn.{core_of, counted, turn_of}
 use Rattle.turn.proofs.Search.{search_next, search_end}
 use Rattle.turn.proofs.Choice.{turn_choice}
 use Rattle.turn.proofs.turn_of.Goals.{After-loop-j}
@@ -17,12 +14,12 @@ use Rattle.turn.proofs.turn_of.Goals as goal
 
 -- the core found is that of the definition
 core_is : (c : After-loop-j)
-    → let a = c.args in c.loop-j.best.core ≡ core_of a.weight.0 a.place (nums a.t3) a.t4
+    → let a = c.args in c.loop-j.best.core ≡ core_of a.weight.0 a.place (nums a.shares) a.counts
 unfolding core_of
 core_is c =
     let a = c.args in
     let at = c.loop-j in
-    ap (λ (b : Best). b.core) (sym (search_end a.weight.0 a.place at.j at.best (nums a.t3) a.t4 (omega arith)) ∙ at.invariant.3)
+    ap (λ (b : Best). b.core) (sym (search_end a.weight.0 a.place at.j at.best (nums a.shares) a.counts (omega arith)) ∙ at.invariant.3)
 
 pub loop-j-init : goal.loop-j-init
 loop-j-init c = (omega arith, nums_long c.args.shares cores_limit (omega arith), omega arith, refl)
@@ -34,14 +31,14 @@ loop-j-preserved c =
       omega arith,
       at.invariant.1,
       at.invariant.2,
-      rw (c.better_core-best.ensures, ← (nums_at a.t3 at.j), add-one at.j)
-          (sym (search_next a.weight.0 a.place at.j at.best (nums a.t3) a.t4 (omega arith) (omega arith)) ∙ at.invariant.3),
+      rw (c.better_core-best.ensures, ← (nums_at a.shares at.j), add-one at.j)
+          (sym (search_next a.weight.0 a.place at.j at.best (nums a.shares) a.counts (omega arith) (omega arith)) ∙ at.invariant.3),
     )
 
 pub counted-requires : goal.counted-requires
 counted-requires c =
     let a = c.args in
-    let f = turn_choice a.weight.0 a.place (nums a.t3) a.t4 c.requires c.loop-j.invariant.1 c.loop-j.invariant.2 in
+    let f = turn_choice a.weight.0 a.place (nums a.shares) a.counts c.requires c.loop-j.invariant.1 c.loop-j.invariant.2 in
     let e = core_is c in
     (omega arith, omega (arith, f.2.within), c.requires.below, c.requires.counts)
 

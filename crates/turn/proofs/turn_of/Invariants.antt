@@ -1,17 +1,10 @@
 -- `turn::turn_of` meets its contract.
 use Prim.Native.Nat.{suc, ◌≤◌, ◌-◌}
-use mathlib.Core.Path.{◌≡◌, refl, sym, ap, ◌∙◌}
-use native.Mathlib.Numerals.{add-one}
-use native.Mathlib.Omega.{arith}
-use borrow.Author.Rules.{rules}
+use mathlib.Core.Path.{◌≡◌}
 use lib.ListN.{length, drop}
 use Rattle.units.specs.Limits.{cores_limit}
 use Rattle.units.specs.Units.{nums}
-use Rattle.units.proofs.Units.{nums_long, nums_at}
-use Rattle.turn.specs.declared.Best.{Best}
-use Rattle.turn.specs.Turn.{best_from, nobody, core_of, counted, turn_of}
-use Rattle.turn.proofs.Search.{search_next, search_end}
-use Rattle.turn.proofs.Choice.{turn_choice}
+use Rattle.turn.specs.Turn.{best_from, nobody}
 use Rattle.turn.proofs.turn_of.Given as goal
 
 -- the cores that are left give the same best core as all
