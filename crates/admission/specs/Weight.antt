@@ -1,5 +1,5 @@
 -- Weights: w = C × L / T, in units of 1/L core. A table is a list of numbers, cost then period for each task.
-use Rattle.std.specs.Prelude.{ℕ, ◌+◌, ◌*◌, ◌-◌, ◌/◌, List, [], ◌∷◌, ◌++◌, length}
+use Rattle.std.specs.Prelude.{ℕ, ◌*◌, ◌-◌, ◌/◌, List, [], ◌∷◌, ◌++◌, length}
 use Rattle.units.specs.Limits.{tasks_limit}
 use Rattle.lists.specs.Lists.{zeros}
 

@@ -2,7 +2,6 @@
 use Rattle.units.specs.declared.refusal.Refusal.{Refusal}
 use Rattle.admission.proofs.Admitting.{answered, input_decides}
 use mathlib.Core.Path.{sym, ap, ◌∙◌}
-use borrow.Author.Rules.{rules}
 use Rattle.admission.proofs.admit.admit.Goals as goal
 
 pub returns-then-first-ne0 : goal.returns-then-first-ne0
