@@ -1,7 +1,6 @@
 -- `run_lengths::Work::with_run` meets its contract.
 use Prim.Native.Nat.{ℕ}
 use mathlib.Core.Path.{◌≡◌, refl}
-use borrow.Author.Rules.{rules}
 use lib.ListN.{set}
 use Rattle.run_lengths.specs.declared.Work.{Work}
 use Rattle.run_lengths.specs.Work.{with_length}
