@@ -1,14 +1,12 @@
 -- `task_shares::rows::parts_of` meets its contract: the parts that are passed and those that are left are all.
-use Prim.Native.Nat.{◌+◌, ◌-◌, ◌≤◌}
 use mathlib.Core.Path.{◌≡◌, ap}
-use mathlib.Core.Logic.{⊎_elim}
 use native.Mathlib.Omega.{arith}
-use lib.ListN.{length, drop}
+use lib.ListN.{length}
 use borrow.Author.Rules.{rules}
 use Rattle.units.specs.Limits.{cores_limit}
-use Rattle.units.specs.Units.{nums}
 use Rattle.lists.specs.Lists.{parts as parts_of}
 use Rattle.task_shares.proofs.RowPassed.{parts_more, parts_same, none_left}
+use Rattle.task_shares.proofs.rows.parts_of.Goals.{then-s-gt0, else-s-gt0}
 use Rattle.task_shares.proofs.rows.parts_of.Goals as goal
 
 pub loop-p-init : goal.loop-p-init
@@ -34,3 +32,13 @@ returns c =
     let ss = c.args.shares in
     let l : length ss ≡ cores_limit = search rules in
     omega (arith, ap parts_of (none_left ss c.loop-p.p (omega arith)))
+
+pub loop-p-preserved : goal.loop-p-preserved
+loop-p-preserved c =
+    let ss = c.args.shares in
+    let at = c.loop-p in
+    let l : length ss ≡ cores_limit = search rules in
+    elim c.if-s-gt0.branch [
+      | then-s-gt0 w ↦ rw w.parts-is (omega arith, omega arith, parts_more ss at.p (omega arith) at.parts at.invariant.2 w.if-s-gt0.true)
+      | else-s-gt0 w ↦ rw w.parts-is (omega arith, omega arith, parts_same ss at.p (omega arith) at.parts at.invariant.2 w.if-s-gt0.false)
+    ]

@@ -1,14 +1,10 @@
 -- `task_shares::rows::parts_of` meets its contract: the parts that are passed and those that are left are all.
 use Prim.Native.Nat.{◌+◌, ◌-◌, ◌≤◌}
-use mathlib.Core.Path.{◌≡◌, ap}
-use mathlib.Core.Logic.{⊎_elim}
-use native.Mathlib.Omega.{arith}
-use lib.ListN.{length, drop}
-use borrow.Author.Rules.{rules}
+use mathlib.Core.Path.{◌≡◌}
+use lib.ListN.{drop}
 use Rattle.units.specs.Limits.{cores_limit}
 use Rattle.units.specs.Units.{nums}
 use Rattle.lists.specs.Lists.{parts as parts_of}
-use Rattle.task_shares.proofs.RowPassed.{parts_more, parts_same, none_left}
 use Rattle.task_shares.proofs.rows.parts_of.Given as goal
 
 abbrev pub invariant-loop-p : goal.invariant-loop-p
