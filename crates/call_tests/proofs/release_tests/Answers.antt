@@ -1,5 +1,4 @@
 -- The first of the two tests is the contract's own: another order is refused beside the right one.
-use borrow.Author.Rules.{rules}
 use Rattle.call_tests.proofs.release_tests.Goals as goal
 
 pub returns : goal.returns

@@ -6,8 +6,7 @@ use Prim.Native.Nat.{ℕ}
 use lib.Dec.{ltb, eqb}
 use mathlib.Core.Bool.{Bool, true, cond, ◌||◌}
 use mathlib.Core.Path.{◌≡◌, sym, ◌∙◌}
-use borrow.Author.Rules.{rules}
-use borrow.Author.Tests.{not-false, lt-ltb, le-ltb}
+use borrow.Author.Tests.{lt-ltb, le-ltb}
 use Rattle.call_tests.proofs.shared_tests.Goals.{Else-time-gt-CLOCK}
 use Rattle.call_tests.proofs.shared_tests.Goals as goal
 
@@ -20,17 +19,17 @@ past : (c : Else-time-gt-CLOCK) → let s = c.args in
     shared_tests s.sound s.wrong s.n s.i s.clock.0 s.time.0 ≡ cond (ltb s.time.0 s.clock.0) past_no 0
 past c =
     let s = c.args in
-    rw (not-false s.sound c.if-not-sound.false, c.if-i-n.false, le-ltb clock_limit s.time.0 c.if-time-gt-CLOCK.false)
+    rw (c.if-not-sound.false, c.if-i-n.false, le-ltb clock_limit s.time.0 c.if-time-gt-CLOCK.false)
 
 pub returns-then-i-n : goal.returns-then-i-n
 returns-then-i-n c =
     let s = c.args in
-    wrong_number s.wrong s.n s.i s.clock.0 s.time.0 (not-false s.sound c.if-not-sound.false) c.if-i-n.true
+    wrong_number s.wrong s.n s.i s.clock.0 s.time.0 c.if-not-sound.false c.if-i-n.true
 
 pub returns-then-time-gt-CLOCK : goal.returns-then-time-gt-CLOCK
 returns-then-time-gt-CLOCK c =
     let s = c.args in
-    rw (not-false s.sound c.if-not-sound.false, c.if-i-n.false, lt-ltb clock_limit s.time.0 c.if-time-gt-CLOCK.true)
+    rw (c.if-not-sound.false, c.if-i-n.false, lt-ltb clock_limit s.time.0 c.if-time-gt-CLOCK.true)
 
 pub returns-then-time-clock : goal.returns-then-time-clock
 returns-then-time-clock c =

@@ -3,7 +3,6 @@ use Prim.Native.Nat.{ℕ, ◌+◌}
 use mathlib.Core.Path.{◌≡◌, refl}
 use mathlib.Core.Bool.{true, false, ◌&&◌}
 use lib.Dec.{ltb, eqb}
-use borrow.Author.Rules.{rules}
 use Rattle.units.specs.Units.{ticks}
 use Rattle.release_times.specs.Times.{release_time}
 use Rattle.release_times.proofs.release_time.Goals as goal
