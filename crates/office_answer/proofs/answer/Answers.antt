@@ -7,15 +7,12 @@ use Rattle.office_answer.proofs.Texts.{due, table_bad, part_length, no_names, na
 use borrow.Author.Rules.{rules}
 use Rattle.office_answer.proofs.answer.Goals as goal
 
-pub returns-then-text-place : goal.returns-then-text-place
-returns-then-text-place c =
-    (
-      due
+pub returns-then-text-place-clause-wrote : goal.returns-then-text-place-clause-wrote
+returns-then-text-place-clause-wrote c =
+    due
           (no_names _ _ c.line_place-place.ensures.value (is_read _ c.read_text.ensures.value c.cores-1.given.1 _ (search rules) c.read_text.ensures.table_after)
           (part_length c.cores-1.given.0.1.0 _ (omega (arith, is_few _ c.read_text.ensures.value c.cores-1.given.1))) c.if-text-place.true)
-          c.put_refused-then-text-place.ensures.wrote refl,
-      search rules,
-    )
+          c.put_refused-then-text-place.ensures.wrote refl
 
 -- GONE slice-bounds-put-named-end
 -- part_put_named_end : tie.Need-slice-bounds-put-named-end
@@ -24,17 +21,11 @@ returns-then-text-place c =
 --     let q = k.before.before.before in
 --     omega (arith, is_few _ q.read_text_lem.ensures.0 k.cores.given.1)
 
-pub returns-in-Unreadable : goal.returns-in-Unreadable
-returns-in-Unreadable c =
-    (
-      due (table_bad _ _ c.line_place-place.ensures.value (is_unreadable _ c.read_text.ensures.value c.line-1.given.1)) c.put_refused.ensures.wrote refl,
-      search rules,
-    )
+pub returns-in-Unreadable-clause-wrote : goal.returns-in-Unreadable-clause-wrote
+returns-in-Unreadable-clause-wrote c =
+    due (table_bad _ _ c.line_place-place.ensures.value (is_unreadable _ c.read_text.ensures.value c.line-1.given.1)) c.put_refused.ensures.wrote refl
 
-pub returns-else-text-place : goal.returns-else-text-place
-returns-else-text-place c =
-    (
-      recast (names_follow _ _ c.line_place-place.ensures.value
-          (is_read _ c.read_text.ensures.value c.cores-1.given.1 _ (search rules) c.read_text.ensures.table_after) c.if-text-place.false) c.put_named.ensures.wrote,
-      search rules,
-    )
+pub returns-else-text-place-clause-wrote : goal.returns-else-text-place-clause-wrote
+returns-else-text-place-clause-wrote c =
+    recast (names_follow _ _ c.line_place-place.ensures.value
+          (is_read _ c.read_text.ensures.value c.cores-1.given.1 _ (search rules) c.read_text.ensures.table_after) c.if-text-place.false) c.put_named.ensures.wrote

@@ -8,10 +8,10 @@ use Rattle.office_answer.proofs.Texts.{due, no_tick, tick_out, tick_fits, tick_r
 use borrow.Author.Rules.{rules}
 use Rattle.office_answer.proofs.put_named.Goals as goal
 
-pub returns-then-not-tick_in : goal.returns-then-not-tick_in
-returns-then-not-tick_in c =
+pub returns-then-not-tick_in-clause-wrote : goal.returns-then-not-tick_in-clause-wrote
+returns-then-not-tick_in-clause-wrote c =
     let e = sym c.read_field.ensures ∙ c.nanos-1.given.1 in
-    (due (tick_out _ _ _ _ _ e (sym c.tick_in.ensures ∙ not-true _ c.if-not-tick_in.true)) c.put_refused-then-not-tick_in.ensures.wrote refl, search rules)
+    due (tick_out _ _ _ _ _ e (sym c.tick_in.ensures ∙ not-true _ c.if-not-tick_in.true)) c.put_refused-then-not-tick_in.ensures.wrote refl
 
 pub overflow_cast-tick : goal.overflow_cast-tick
 overflow_cast-tick c =
@@ -27,11 +27,11 @@ slice_bounds-put_written-count c =
 --     let k = c.before.before.before.before in
 --     field_ends _ _ _ _ _ _ (search rules) (sym k.before.before.read_field_lem.ensures ∙ k.nanos.given.1)
 
-pub returns-in-NoNumber : goal.returns-in-NoNumber
-returns-in-NoNumber c =
-    (due (no_tick _ _ _ _ _ (sym c.read_field.ensures ∙ c.enum_told-1.given.1)) c.put_refused.ensures.wrote refl, search rules)
+pub returns-in-NoNumber-clause-wrote : goal.returns-in-NoNumber-clause-wrote
+returns-in-NoNumber-clause-wrote c =
+    due (no_tick _ _ _ _ _ (sym c.read_field.ensures ∙ c.enum_told-1.given.1)) c.put_refused.ensures.wrote refl
 
-pub returns-else-not-tick_in : goal.returns-else-not-tick_in
-returns-else-not-tick_in c =
+pub returns-else-not-tick_in-clause-wrote : goal.returns-else-not-tick_in-clause-wrote
+returns-else-not-tick_in-clause-wrote c =
     let e = sym c.read_field.ensures ∙ c.nanos-1.given.1 in
-    (recast (tick_read _ _ _ _ _ e) c.put_written.ensures.wrote, search rules)
+    recast (tick_read _ _ _ _ _ e) c.put_written.ensures.wrote

@@ -20,9 +20,10 @@ pub overflow_mul-period : goal.overflow_mul-period
 overflow_mul-period c =
     omega (arith, small (goal.at.overflow_mul-period c).Start)
 
-pub returns : goal.returns
-returns c =
-    (
-      then (then (then c.put_text-a.ensures c.put_field-b.ensures.wrote) c.put_field-c.ensures.wrote) c.put_byte.ensures,
-      omega (arith, c.put_text-a.ensures.end, c.put_field-b.ensures.upper_bound, c.put_field-c.ensures.upper_bound, c.put_byte.ensures.end, c.requires.1),
-    )
+pub returns-clause-wrote : goal.returns-clause-wrote
+returns-clause-wrote c =
+    then (then (then c.put_text-a.ensures c.put_field-b.ensures.wrote) c.put_field-c.ensures.wrote) c.put_byte.ensures
+
+pub returns-clause-upper_bound : goal.returns-clause-upper_bound
+returns-clause-upper_bound c =
+    omega (arith, c.put_text-a.ensures.end, c.put_field-b.ensures.upper_bound, c.put_field-c.ensures.upper_bound, c.put_byte.ensures.end, c.requires.1)

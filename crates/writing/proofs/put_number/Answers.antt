@@ -1,5 +1,4 @@
 -- `writing::put_number` meets its contract: a short number where there is room, and any other as far as the buffer reaches.
-use borrow.Author.Rules.{rules}
 use borrow.Author.Tests.{ltb-true, leb-true}
 use Prim.Native.Nat.{◌+◌, ◌≤◌, ◌<◌}
 use native.Mathlib.Omega.{arith}
@@ -20,5 +19,10 @@ room c = leb-true _ _ (and_right (ltb c.args.n 100000000) _ c.if-n-at.true)
 pub overflow_cast-n : goal.overflow_cast-n
 overflow_cast-n c = record { fits = omega (arith, short (goal.at.overflow_cast-n c).Then-n-at) }
 
-pub put_short-requires : goal.put_short-requires
-put_short-requires c = (short (goal.at.put_short-requires c).Then-n-at, room (goal.at.put_short-requires c).Then-n-at)
+pub put_short-requires-clause-n_bound : goal.put_short-requires-clause-n_bound
+put_short-requires-clause-n_bound c =
+    short (goal.at.put_short-requires-clause-n_bound c).Then-n-at
+
+pub put_short-requires-clause-at_in_bounds : goal.put_short-requires-clause-at_in_bounds
+put_short-requires-clause-at_in_bounds c =
+    room (goal.at.put_short-requires-clause-at_in_bounds c).Then-n-at

@@ -1,21 +1,14 @@
 -- `writing::put_signed` meets its contract: a minus sign and the size, or the size alone.
-use borrow.Author.Rules.{rules}
 use Rattle.writing.proofs.Signed.{signed_below, signed_above, down, upward}
 use Rattle.writing.proofs.Wrote.{then, recast}
 use Rattle.writing.proofs.put_signed.Goals as goal
 
-pub returns-then-z-lt0 : goal.returns-then-z-lt0
-returns-then-z-lt0 c =
-    (
-      recast (signed_below c.args.z _ (down c.args.z c.ranges.z c.if-z-lt0.true) c.ranges.z c.size-n.ensures)
-          (then c.put_byte-next.ensures c.put_number.ensures.wrote),
-      search rules,
-    )
+pub returns-then-z-lt0-clause-wrote : goal.returns-then-z-lt0-clause-wrote
+returns-then-z-lt0-clause-wrote c =
+    recast (signed_below c.args.z _ (down c.args.z c.ranges.z c.if-z-lt0.true) c.ranges.z c.size-n.ensures)
+    (then c.put_byte-next.ensures c.put_number.ensures.wrote)
 
-pub returns-else-z-lt0 : goal.returns-else-z-lt0
-returns-else-z-lt0 c =
-    (
-      recast (signed_above c.args.z _ (upward c.args.z c.ranges.z c.if-z-lt0.false) c.ranges.z c.size-n.ensures)
-          c.put_number-else-z-lt0.ensures.wrote,
-      search rules,
-    )
+pub returns-else-z-lt0-clause-wrote : goal.returns-else-z-lt0-clause-wrote
+returns-else-z-lt0-clause-wrote c =
+    recast (signed_above c.args.z _ (upward c.args.z c.ranges.z c.if-z-lt0.false) c.ranges.z c.size-n.ensures)
+    c.put_number-else-z-lt0.ensures.wrote

@@ -1,11 +1,8 @@
 -- `writing::put_text` meets its contract: all of the text, or its first i bytes in a loop.
 use borrow.Author.Rules.{rules}
-use Prim.Native.Nat.{◌≤◌, ◌-◌}
 use native.Mathlib.Omega.{arith}
-use mathlib.Core.Path.{◌≡◌, ◌∙◌}
-use lib.ListN.{length, take}
+use mathlib.Core.Path.{◌∙◌}
 use lib.Seq.{length-take-le}
-use Rattle.writing.specs.Wrote.{Wrote}
 use Rattle.writing.proofs.Wrote.{none, byte_more, every_byte}
 use Rattle.writing.proofs.put_text.Goals as goal
 
@@ -27,7 +24,7 @@ loop-i-preserved c =
     let w = c.args.text.now in (
       search rules,
       byte_more w l.i c.loop-i-test.true l.invariant.1 c.put_byte-next.ensures,
-      c.put_byte-next.auto.0 ∙ l.invariant.2,
+      c.put_byte-next.auto.buf ∙ l.invariant.2,
     )
 
 pub returns : goal.returns

@@ -1,11 +1,8 @@
 -- `writing::put_whole` meets its contract: the first i bytes of the text are written.
-use borrow.Author.Rules.{rules}
 use Prim.Native.Nat.{◌+◌, ◌≤◌, ◌-◌}
-use native.Mathlib.Omega.{arith}
-use mathlib.Core.Path.{◌≡◌, ◌∙◌}
-use lib.ListN.{length, take, length-set}
+use mathlib.Core.Path.{◌≡◌}
+use lib.ListN.{length, take}
 use Rattle.writing.specs.Wrote.{Wrote}
-use Rattle.writing.proofs.Wrote.{none, stored, byte_more, every_byte}
 use Rattle.writing.proofs.put_whole.Given as goal
 
 abbrev pub invariant-loop-i : goal.invariant-loop-i

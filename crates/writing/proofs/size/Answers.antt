@@ -3,7 +3,6 @@ use native.Mathlib.Omega.{arith}
 use native.Mathlib.Numerals.{add-one}
 use mathlib.Core.Path.{sym, ap, ◌∙◌}
 use lib.IntN.{nat_abs}
-use borrow.Author.Rules.{rules}
 use Rattle.writing.proofs.Signed.{Down, down, Up, upward, neg_fits}
 use Rattle.writing.proofs.size.Goals.{Else-z-lt0, Then-z-lt0}
 use Rattle.writing.proofs.size.Goals as goal

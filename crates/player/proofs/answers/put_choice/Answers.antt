@@ -5,17 +5,17 @@ use Rattle.player.specs.Answers.{choice_text}
 use borrow.Author.Rules.{rules}
 use Rattle.player.proofs.answers.put_choice.Goals as goal
 
-pub returns-in-Idle : goal.returns-in-Idle
+pub returns-in-Idle-clause-wrote : goal.returns-in-Idle-clause-wrote
 unfolding choice_text
-returns-in-Idle c =
-    (recast (sym (ap choice_text c.enum_told-1.given.1)) c.put_text.ensures, search rules)
+returns-in-Idle-clause-wrote c =
+    recast (sym (ap choice_text c.enum_told-1.given.1)) c.put_text.ensures
 
-pub returns-in-Fixed : goal.returns-in-Fixed
+pub returns-in-Fixed-clause-wrote : goal.returns-in-Fixed-clause-wrote
 unfolding choice_text
-returns-in-Fixed c =
-    (recast (sym (ap choice_text c.choice-1.given.1)) c.put_chosen.ensures.wrote, search rules)
+returns-in-Fixed-clause-wrote c =
+    recast (sym (ap choice_text c.choice-1.given.1)) c.put_chosen.ensures.wrote
 
-pub returns-in-Mover : goal.returns-in-Mover
+pub returns-in-Mover-clause-wrote : goal.returns-in-Mover-clause-wrote
 unfolding choice_text
-returns-in-Mover c =
-    (recast (sym (ap choice_text c.choice-in-Mover-1.given.1)) c.put_mover.ensures.wrote, search rules)
+returns-in-Mover-clause-wrote c =
+    recast (sym (ap choice_text c.choice-in-Mover-1.given.1)) c.put_mover.ensures.wrote

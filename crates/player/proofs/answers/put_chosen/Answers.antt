@@ -3,6 +3,6 @@ use Rattle.writing.proofs.Wrote.{then}
 use borrow.Author.Rules.{rules}
 use Rattle.player.proofs.answers.put_chosen.Goals as goal
 
-pub returns : goal.returns
-returns c =
-    (then c.put_field-a.ensures.wrote c.put_field.ensures.wrote, search rules)
+pub returns-clause-wrote : goal.returns-clause-wrote
+returns-clause-wrote c =
+    then c.put_field-a.ensures.wrote c.put_field.ensures.wrote

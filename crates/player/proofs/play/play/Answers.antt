@@ -6,9 +6,9 @@ use Rattle.player.proofs.Gives.{too_long, table_bad, table_good}
 use borrow.Author.Rules.{rules}
 use Rattle.player.proofs.play.play.Goals as goal
 
-pub returns-then-text-gt-INPUT : goal.returns-then-text-gt-INPUT
-returns-then-text-gt-INPUT c =
-    (recast (too_long _ c.if-text-gt-INPUT.true) c.put_unreadable.ensures.wrote, search rules)
+pub returns-then-text-gt-INPUT-clause-wrote : goal.returns-then-text-gt-INPUT-clause-wrote
+returns-then-text-gt-INPUT-clause-wrote c =
+    recast (too_long _ c.if-text-gt-INPUT.true) c.put_unreadable.ensures.wrote
 
 -- GONE slice-bounds-play-table-end
 -- part_play_table_end : tie.Need-slice-bounds-play-table-end
@@ -21,18 +21,12 @@ pub play_table-requires : goal.play_table-requires
 play_table-requires c =
     (search rules, part_few _ _ _ (is_few _ c.read_text.ensures.value c.cores-1.given.1))
 
-pub returns-in-Unreadable : goal.returns-in-Unreadable
-returns-in-Unreadable c =
-    (
-      recast (table_bad _ c.if-text-gt-INPUT.false c.calls_place-place.ensures.value (is_unreadable _ c.read_text.ensures.value c.line-1.given.1))
-          c.put_unreadable-in-Unreadable.ensures.wrote,
-      search rules,
-    )
+pub returns-in-Unreadable-clause-wrote : goal.returns-in-Unreadable-clause-wrote
+returns-in-Unreadable-clause-wrote c =
+    recast (table_bad _ c.if-text-gt-INPUT.false c.calls_place-place.ensures.value (is_unreadable _ c.read_text.ensures.value c.line-1.given.1))
+          c.put_unreadable-in-Unreadable.ensures.wrote
 
-pub returns-in-Read : goal.returns-in-Read
-returns-in-Read c =
-    (
-      recast (table_good _ c.if-text-gt-INPUT.false c.calls_place-place.ensures.value
-          (is_read _ c.read_text.ensures.value c.cores-1.given.1 _ (search rules) c.read_text.ensures.table_after)) c.play_table.ensures.wrote,
-      search rules,
-    )
+pub returns-in-Read-clause-wrote : goal.returns-in-Read-clause-wrote
+returns-in-Read-clause-wrote c =
+    recast (table_good _ c.if-text-gt-INPUT.false c.calls_place-place.ensures.value
+          (is_read _ c.read_text.ensures.value c.cores-1.given.1 _ (search rules) c.read_text.ensures.table_after)) c.play_table.ensures.wrote

@@ -14,14 +14,14 @@ first_line : (c : After-first_bad-bad) → let s = c.args in
     c.first_bad-bad.result ≡ bad_call s.text.now (3 + length s.table.now / 2) (s.place + 6)
 first_line c = c.first_bad-bad.ensures
 
-pub returns-then-text-place : goal.returns-then-text-place
-returns-then-text-place c =
-    (recast (no_calls _ _ _ _ c.if-text-place.true) c.put_unreadable.ensures.wrote, search rules)
+pub returns-then-text-place-clause-wrote : goal.returns-then-text-place-clause-wrote
+returns-then-text-place-clause-wrote c =
+    recast (no_calls _ _ _ _ c.if-text-place.true) c.put_unreadable.ensures.wrote
 
-pub returns-then-bad-ne0 : goal.returns-then-bad-ne0
-returns-then-bad-ne0 c =
-    (recast (bad_call_lem _ _ _ _ c.if-text-place.false (first_line (goal.at.returns-then-bad-ne0 c).After-first_bad-bad) c.if-bad-ne0.true) c.put_unreadable-then-bad-ne0.ensures.wrote, search rules)
+pub returns-then-bad-ne0-clause-wrote : goal.returns-then-bad-ne0-clause-wrote
+returns-then-bad-ne0-clause-wrote c =
+    recast (bad_call_lem _ _ _ _ c.if-text-place.false (first_line (goal.at.returns-then-bad-ne0 c).After-first_bad-bad) c.if-bad-ne0.true) c.put_unreadable-then-bad-ne0.ensures.wrote
 
-pub returns : goal.returns
-returns c =
-    (recast (good_calls _ _ _ _ c.if-text-place.false (first_line (goal.at.returns c).After-first_bad-bad) c.if-bad-ne0.false) c.play_taken.ensures.wrote, search rules)
+pub returns-clause-wrote : goal.returns-clause-wrote
+returns-clause-wrote c =
+    recast (good_calls _ _ _ _ c.if-text-place.false (first_line (goal.at.returns c).After-first_bad-bad) c.if-bad-ne0.false) c.play_taken.ensures.wrote

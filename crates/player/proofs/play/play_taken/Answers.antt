@@ -4,12 +4,12 @@ use Rattle.player.proofs.Gives.{refused, taken}
 use borrow.Author.Rules.{rules}
 use Rattle.player.proofs.play.play_taken.Goals as goal
 
-pub returns-then-refusal-ne0 : goal.returns-then-refusal-ne0
-returns-then-refusal-ne0 c =
+pub returns-then-refusal-ne0-clause-wrote : goal.returns-then-refusal-ne0-clause-wrote
+returns-then-refusal-ne0-clause-wrote c =
     let e = c.fresh-fresh.ensures in
-    (recast (refused _ _ _ _ e c.if-refusal-ne0.true) c.put_refusal.ensures.wrote, search rules)
+    recast (refused _ _ _ _ e c.if-refusal-ne0.true) c.put_refusal.ensures.wrote
 
-pub returns : goal.returns
-returns c =
+pub returns-clause-wrote : goal.returns-clause-wrote
+returns-clause-wrote c =
     let e = c.fresh-fresh.ensures in
-    (recast (taken _ _ _ _ e c.if-refusal-ne0.false) c.play_calls.ensures.wrote, search rules)
+    recast (taken _ _ _ _ e c.if-refusal-ne0.false) c.play_calls.ensures.wrote

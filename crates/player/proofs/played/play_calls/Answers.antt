@@ -16,10 +16,15 @@ loop-at-init c = begun _ _ _ _
 pub shape_of-buf-then-next-eq0 : goal.shape_of-buf-then-next-eq0
 shape_of-buf-then-next-eq0 c = kept c.loop-at.invariant.wrote
 
-pub returns-then-next-eq0 : goal.returns-then-next-eq0
-returns-then-next-eq0 c =
+pub returns-then-next-eq0-clause-wrote : goal.returns-then-next-eq0-clause-wrote
+returns-then-next-eq0-clause-wrote c =
     let l = c.loop-at in
-    (stopped l.invariant c.loop-at-test.true c.read_call-line.ensures (sym c.line_after-next.ensures ∙ c.if-next-eq0.true), l.invariant.short)
+    stopped l.invariant c.loop-at-test.true c.read_call-line.ensures (sym c.line_after-next.ensures ∙ c.if-next-eq0.true)
+
+pub returns-then-next-eq0-clause-upper_bound : goal.returns-then-next-eq0-clause-upper_bound
+returns-then-next-eq0-clause-upper_bound c =
+    let l = c.loop-at in
+    l.invariant.short
 
 pub play_line-played-requires : goal.play_line-played-requires
 play_line-played-requires c =
@@ -38,5 +43,10 @@ loop-at-preserved c =
 pub shape_of-buf : goal.shape_of-buf
 shape_of-buf c = kept c.loop-at.invariant.wrote
 
-pub returns : goal.returns
-returns c = (ended c.loop-at.invariant c.loop-at-test.false, c.loop-at.invariant.short)
+pub returns-clause-wrote : goal.returns-clause-wrote
+returns-clause-wrote c =
+    ended c.loop-at.invariant c.loop-at-test.false
+
+pub returns-clause-upper_bound : goal.returns-clause-upper_bound
+returns-clause-upper_bound c =
+    c.loop-at.invariant.short

@@ -1,7 +1,6 @@
 -- `scanning::line::byte_at` meets its contract.
 use mathlib.Core.Path.{sym}
 use lib.ListN.{get_or-eq_default}
-use borrow.Author.Rules.{rules}
 use Rattle.scanning.proofs.line.byte_at.Goals as goal
 
 pub returns-else-at-text : goal.returns-else-at-text

@@ -1,10 +1,7 @@
 -- `scanning::number::digits` meets its contract.
 use native.Mathlib.Omega.{arith}
 use borrow.Author.Rules.{rules}
-use Prim.Native.Nat.{◌≤◌, ◌<◌, ◌-◌}
-use mathlib.Core.Path.{◌≡◌, refl, sym, ◌∙◌}
-use lib.ListN.{length, drop}
-use Rattle.scanning.specs.Number.{digits_of}
+use mathlib.Core.Path.{refl, sym, ◌∙◌}
 use Rattle.scanning.proofs.Digits.{digits_end, digits_large, digits_more, digits_done}
 use Rattle.scanning.proofs.number.digits.Goals as goal
 

@@ -1,11 +1,8 @@
 -- `scanning::number::digits` meets its contract.
-use native.Mathlib.Omega.{arith}
-use borrow.Author.Rules.{rules}
 use Prim.Native.Nat.{◌≤◌, ◌<◌, ◌-◌}
-use mathlib.Core.Path.{◌≡◌, refl, sym, ◌∙◌}
+use mathlib.Core.Path.{◌≡◌}
 use lib.ListN.{length, drop}
 use Rattle.scanning.specs.Number.{digits_of}
-use Rattle.scanning.proofs.Digits.{digits_end, digits_large, digits_more, digits_done}
 use Rattle.scanning.proofs.number.digits.Given as goal
 
 abbrev pub invariant-loop-at : goal.invariant-loop-at

@@ -1,9 +1,7 @@
 -- `scanning::word::read_word` meets its contract.
 use Prim.Native.Nat.{◌-◌}
-use mathlib.Core.Path.{sym}
 use lib.ListN.{length}
-use borrow.Author.Rules.{rules}
-use Rattle.scanning.proofs.Words.{Reading, begun, cut, other, next_byte, whole}
+use Rattle.scanning.proofs.Words.{Reading}
 use Rattle.scanning.proofs.word.read_word.Given as goal
 
 abbrev pub invariant-loop-i : goal.invariant-loop-i

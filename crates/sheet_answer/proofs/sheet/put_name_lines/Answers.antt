@@ -16,10 +16,15 @@ loop-place-init c = begun _ _ _
 pub shape_of-buf-then-next-eq0 : goal.shape_of-buf-then-next-eq0
 shape_of-buf-then-next-eq0 c = kept c.loop-place.invariant.wrote
 
-pub returns-then-next-eq0 : goal.returns-then-next-eq0
-returns-then-next-eq0 c =
+pub returns-then-next-eq0-clause-wrote : goal.returns-then-next-eq0-clause-wrote
+returns-then-next-eq0-clause-wrote c =
     let l = c.loop-place.invariant in
-    (stopped l c.loop-place-test.true c.name_end-next.ensures c.if-next-eq0.true, omega (arith, l.short, l.within))
+    stopped l c.loop-place-test.true c.name_end-next.ensures c.if-next-eq0.true
+
+pub returns-then-next-eq0-clause-upper_bound : goal.returns-then-next-eq0-clause-upper_bound
+returns-then-next-eq0-clause-upper_bound c =
+    let l = c.loop-place.invariant in
+    omega (arith, l.short, l.within)
 
 pub slice_bounds-put_named-count : goal.slice_bounds-put_named-count
 slice_bounds-put_named-count c = (parted _ _ _ _ (omega arith) c.name_end-next.ensures c.if-next-eq0.false).from
@@ -53,7 +58,12 @@ loop-place-preserved c =
 pub shape_of-buf : goal.shape_of-buf
 shape_of-buf c = kept c.loop-place.invariant.wrote
 
-pub returns : goal.returns
-returns c =
+pub returns-clause-wrote : goal.returns-clause-wrote
+returns-clause-wrote c =
     let l = c.loop-place.invariant in
-    (ended l c.loop-place-test.false, omega (arith, l.short, l.within))
+    ended l c.loop-place-test.false
+
+pub returns-clause-upper_bound : goal.returns-clause-upper_bound
+returns-clause-upper_bound c =
+    let l = c.loop-place.invariant in
+    omega (arith, l.short, l.within)

@@ -17,9 +17,12 @@ put_name_lines-requires c =
     let l = listed c.requires.0 c.requires.1 c.list_plan-listed.ensures.value c.list_plan-listed.ensures.buf_after in
     (omega (arith, l.1, c.put_field-a.ensures.upper_bound, c.put_byte-b.ensures.end), names_few c.requires.0)
 
-pub returns : goal.returns
-returns c =
-    let l = listed c.requires.0 c.requires.1 c.list_plan-listed.ensures.value c.list_plan-listed.ensures.buf_after in (
-      parts _ l.0 c.put_field-a.ensures.wrote c.put_byte-b.ensures c.put_name_lines.ensures.wrote,
-      omega (arith, l.1, c.put_field-a.ensures.upper_bound, c.put_byte-b.ensures.end, c.put_name_lines.ensures.upper_bound),
-    )
+pub returns-clause-wrote : goal.returns-clause-wrote
+returns-clause-wrote c =
+    let l = listed c.requires.0 c.requires.1 c.list_plan-listed.ensures.value c.list_plan-listed.ensures.buf_after in
+    parts _ l.0 c.put_field-a.ensures.wrote c.put_byte-b.ensures c.put_name_lines.ensures.wrote
+
+pub returns-clause-upper_bound : goal.returns-clause-upper_bound
+returns-clause-upper_bound c =
+    let l = listed c.requires.0 c.requires.1 c.list_plan-listed.ensures.value c.list_plan-listed.ensures.buf_after in
+    omega (arith, l.1, c.put_field-a.ensures.upper_bound, c.put_byte-b.ensures.end, c.put_name_lines.ensures.upper_bound)

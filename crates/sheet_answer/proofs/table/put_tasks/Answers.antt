@@ -22,7 +22,12 @@ loop-i-preserved c =
 pub shape_of-buf : goal.shape_of-buf
 shape_of-buf c = kept c.loop-i.invariant.wrote
 
-pub returns : goal.returns
-returns c =
+pub returns-clause-wrote : goal.returns-clause-wrote
+returns-clause-wrote c =
     let l = c.loop-i.invariant in
-    (ended l c.loop-i-test.false, omega (arith, l.short, l.within))
+    ended l c.loop-i-test.false
+
+pub returns-clause-upper_bound : goal.returns-clause-upper_bound
+returns-clause-upper_bound c =
+    let l = c.loop-i.invariant in
+    omega (arith, l.short, l.within)

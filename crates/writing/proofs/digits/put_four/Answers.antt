@@ -1,5 +1,4 @@
 -- `writing::digits::put_four` meets its contract: one text after another.
-use borrow.Author.Rules.{rules}
 use Rattle.writing.proofs.Wrote.{then}
 use Rattle.writing.proofs.digits.put_four.Goals as goal
 

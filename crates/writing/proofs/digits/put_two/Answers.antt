@@ -1,5 +1,4 @@
 -- `writing::digits::put_two` meets its contract: one byte after another.
-use borrow.Author.Rules.{rules}
 use native.Mathlib.Omega.{arith}
 use lib.ListN.{length-set}
 use Rattle.writing.proofs.Wrote.{both_stored}

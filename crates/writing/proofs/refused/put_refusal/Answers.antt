@@ -1,10 +1,9 @@
 -- `writing::refused::put_refusal` meets its contract.
 use Rattle.writing.proofs.Wrote.{then}
 use Rattle.writing.specs.Refused.{refusal_text}
-use borrow.Author.Rules.{rules}
 use Rattle.writing.proofs.refused.put_refusal.Goals as goal
 
-pub returns : goal.returns
+pub returns-clause-wrote : goal.returns-clause-wrote
 unfolding refusal_text
-returns c =
-    (then (then c.put_field-a.ensures.wrote c.put_named-b.ensures.wrote) c.put_byte.ensures, search rules)
+returns-clause-wrote c =
+    then (then c.put_field-a.ensures.wrote c.put_named-b.ensures.wrote) c.put_byte.ensures
