@@ -1,35 +1,29 @@
 -- `assignment::pass_one` meets its contract.
-use Prim.Native.Nat.{◌<◌, ◌-◌}
-use mathlib.Core.Path.{◌≡◌, refl, sym, ap, ◌∙◌}
+use Prim.Native.Nat.{◌<◌}
+use mathlib.Core.Path.{refl, sym, ap, ◌∙◌}
 use native.Mathlib.Omega.{arith}
-use lib.ListN.{length, get_or, length-set}
-use Rattle.units.specs.Limits.{cores_limit, tasks_limit}
+use lib.ListN.{length, length-set}
+use Rattle.units.specs.Limits.{cores_limit}
 use Rattle.units.specs.Units.{nums}
-use Rattle.units.proofs.Units.{field_long, nums_at, nums_set}
-use Rattle.assignment.specs.Passes.{rows_of}
-use Rattle.assignment.specs.Inner.{assign, from}
+use Rattle.units.proofs.Units.{nums_long, nums_at, nums_set}
 use Rattle.assignment.proofs.Steps.{core_low, rows_set, one_next, misfit, one_end}
 use borrow.Author.Rules.{rules}
-use Rattle.assignment.proofs.pass_one.Goals.{After-roomiest-p, After-t-1}
+use Rattle.assignment.proofs.pass_one.Goals.{After-roomiest-p}
 use Rattle.assignment.proofs.pass_one.Goals as goal
 
--- the task is one of the box's
-task-low : (c : After-t-1) → get_or c.args.order.tasks c.loop-i.i 0 < tasks_limit
-task-low c = c.requires.low c.loop-i.i (omega arith)
-
--- and so is the core
+-- the core is one of the box's
 roomiest-low : (c : After-roomiest-p) → c.roomiest-p.result < cores_limit
 roomiest-low c = core_low (nums c.loop-i.left.shares) _ c.loop-i.invariant.0
     c.roomiest-p.ensures
 
 pub loop-i-init : goal.loop-i-init
-loop-i-init c = (search (rules, field_long), refl)
+loop-i-init c = (search (rules, nums_long), refl)
 
 pub offset_bounds-weights-t : goal.offset_bounds-weights-t
-offset_bounds-weights-t c = omega (arith, task-low c)
+offset_bounds-weights-t c = omega (arith, c.requires.low c.loop-i.i (omega arith))
 
 pub bounds-weights-t : goal.bounds-weights-t
-bounds-weights-t c = task-low c
+bounds-weights-t c = c.requires.low c.loop-i.i (omega arith)
 
 pub offset_bounds-left-p : goal.offset_bounds-left-p
 offset_bounds-left-p c = omega (arith, roomiest-low c)
@@ -53,10 +47,10 @@ pub bounds-row-p : goal.bounds-row-p
 bounds-row-p c = roomiest-low (goal.at.bounds-row-p c).After-roomiest-p
 
 pub offset_bounds-table-t : goal.offset_bounds-table-t
-offset_bounds-table-t c = omega (arith, task-low (goal.at.offset_bounds-table-t c).After-t-1)
+offset_bounds-table-t c = omega (arith, c.requires.low c.loop-i.i (omega arith))
 
 pub bounds-table-t : goal.bounds-table-t
-bounds-table-t c = task-low (goal.at.bounds-table-t c).After-t-1
+bounds-table-t c = c.requires.low c.loop-i.i (omega arith)
 
 pub offset_bounds-left-p-in-loop-i : goal.offset_bounds-left-p-in-loop-i
 offset_bounds-left-p-in-loop-i c = omega (arith, roomiest-low (goal.at.offset_bounds-left-p-in-loop-i c).After-roomiest-p)

@@ -1,15 +1,11 @@
 -- `assignment::pass_one` meets its contract.
-use Prim.Native.Nat.{◌<◌, ◌-◌}
-use mathlib.Core.Path.{◌≡◌, refl, sym, ap, ◌∙◌}
-use native.Mathlib.Omega.{arith}
-use lib.ListN.{length, get_or, length-set}
-use Rattle.units.specs.Limits.{cores_limit, tasks_limit}
+use Prim.Native.Nat.{◌-◌}
+use mathlib.Core.Path.{◌≡◌}
+use lib.ListN.{length}
+use Rattle.units.specs.Limits.{cores_limit}
 use Rattle.units.specs.Units.{nums}
-use Rattle.units.proofs.Units.{field_long, nums_at, nums_set}
 use Rattle.assignment.specs.Passes.{rows_of}
 use Rattle.assignment.specs.Inner.{assign, from}
-use Rattle.assignment.proofs.Steps.{core_low, rows_set, one_next, misfit, one_end}
-use borrow.Author.Rules.{rules}
 use Rattle.assignment.proofs.pass_one.Given as goal
 
 abbrev pub invariant-loop-i : goal.invariant-loop-i

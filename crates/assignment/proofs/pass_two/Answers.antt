@@ -1,46 +1,38 @@
 -- `assignment::pass_two` meets its contract.
-use Prim.Native.Nat.{◌+◌, ◌-◌, ◌≤◌, ◌<◌}
-use mathlib.Core.Path.{◌≡◌, refl, sym, ◌∙◌}
+use Prim.Native.Nat.{◌<◌}
+use mathlib.Core.Path.{refl, sym, ◌∙◌}
 use native.Mathlib.Omega.{arith}
-use lib.ListN.{length, get_or, drop}
-use Rattle.units.specs.Limits.{cores_limit, tasks_limit}
+use Rattle.units.specs.Limits.{cores_limit}
 use Rattle.units.specs.Units.{nums}
-use Rattle.units.proofs.Units.{field_long, nums_at, nums_set}
-use Rattle.assignment.specs.Passes.{rows_of}
-use Rattle.assignment.specs.Inner.{assign_two, from}
-use Rattle.assignment.proofs.Giving.{Giving, Step, going, start, next, last, done}
+use Rattle.units.proofs.Units.{nums_long, nums_at, nums_set}
+use Rattle.assignment.proofs.Giving.{Step, going, start, next, last, done}
 use Rattle.assignment.proofs.Steps.{rows_set, two_next, two_end}
 use borrow.Author.Rules.{rules}
-use Rattle.assignment.proofs.pass_two.Goals.{After-rest-need, After-t-1, In-loop-need}
+use Rattle.assignment.proofs.pass_two.Goals.{After-rest-need, In-loop-need}
 use Rattle.assignment.proofs.pass_two.Goals as goal
 
--- the task is one of the box's
-task-low : (c : After-t-1 invariant-loop decreases-loop)
-    → get_or c.args.order.tasks c.loop-i.i 0 < tasks_limit
-task-low c = c.requires.low c.loop-i.i (omega arith)
-
 -- it needs more, and the pointer is at one of the box's cores
-goes : (c : In-loop-need invariant-loop decreases-loop) → (0 < c.loop-need.need.0) × (c.loop-need.p < cores_limit)
+goes : (c : In-loop-need) → (0 < c.loop-need.need.0) × (c.loop-need.p < cores_limit)
 goes c = going _ _ _ c.loop-need-test.true
 
 -- it is given its share of that core
-steps : (c : After-rest-need invariant-loop decreases-loop)
+steps : (c : After-rest-need)
     → let at = c.loop-need in
     Step cores_limit (nums at.left) at.need.0 at.p c.smaller.result.0 c.rest.result.0 c.rest-need.result.0
 steps c =
     let at = c.loop-need in
-    let go = goes c.? in
+    let go = going _ _ _ c.loop-need-test.true in
     let have = nums_at at.left at.p in
     record { low = go.1; some = go.0; share = omega arith; rest = omega arith; more = omega arith }
 
 pub loop-i-init : goal.loop-i-init
-loop-i-init c = (omega arith, search (rules, field_long), refl)
+loop-i-init c = (omega arith, search (rules, nums_long), refl)
 
 pub offset_bounds-weights-t : goal.offset_bounds-weights-t
-offset_bounds-weights-t c = omega (arith, task-low c)
+offset_bounds-weights-t c = omega (arith, c.requires.low c.loop-i.i (omega arith))
 
 pub bounds-weights-t : goal.bounds-weights-t
-bounds-weights-t c = task-low c
+bounds-weights-t c = c.requires.low c.loop-i.i (omega arith)
 
 pub loop-need-init : goal.loop-need-init
 loop-need-init c =
@@ -85,10 +77,10 @@ loop-need-preserved c =
     rw (nums_set at.row, nums_set at.left) (last _ _ _ _ _ _ _ _ at.invariant _ _ _ (steps (goal.at.loop-need-preserved c).After-rest-need) (omega arith))
 
 pub offset_bounds-table-t : goal.offset_bounds-table-t
-offset_bounds-table-t c = omega (arith, task-low (goal.at.offset_bounds-table-t c).After-t-1)
+offset_bounds-table-t c = omega (arith, c.requires.low c.loop-i.i (omega arith))
 
 pub bounds-table-t : goal.bounds-table-t
-bounds-table-t c = task-low (goal.at.bounds-table-t c).After-t-1
+bounds-table-t c = c.requires.low c.loop-i.i (omega arith)
 
 pub loop-i-preserved : goal.loop-i-preserved
 loop-i-preserved c =

@@ -1,16 +1,12 @@
 -- `assignment::pass_two` meets its contract.
-use Prim.Native.Nat.{◌+◌, ◌-◌, ◌≤◌, ◌<◌}
-use mathlib.Core.Path.{◌≡◌, refl, sym, ◌∙◌}
-use native.Mathlib.Omega.{arith}
-use lib.ListN.{length, get_or, drop}
-use Rattle.units.specs.Limits.{cores_limit, tasks_limit}
+use Prim.Native.Nat.{◌+◌, ◌-◌, ◌≤◌}
+use mathlib.Core.Path.{◌≡◌}
+use lib.ListN.{length, drop}
+use Rattle.units.specs.Limits.{cores_limit}
 use Rattle.units.specs.Units.{nums}
-use Rattle.units.proofs.Units.{field_long, nums_at, nums_set}
 use Rattle.assignment.specs.Passes.{rows_of}
 use Rattle.assignment.specs.Inner.{assign_two, from}
-use Rattle.assignment.proofs.Giving.{Giving, Step, going, start, next, last, done}
-use Rattle.assignment.proofs.Steps.{rows_set, two_next, two_end}
-use borrow.Author.Rules.{rules}
+use Rattle.assignment.proofs.Giving.{Giving}
 use Rattle.assignment.proofs.pass_two.Given as goal
 
 abbrev pub invariant-loop-need : goal.invariant-loop-need

@@ -1,18 +1,14 @@
 -- `assignment::roomiest` meets its contract.
-use Prim.Native.Nat.{◌≤◌, ◌-◌}
-use mathlib.Core.Path.{◌≡◌, sym}
-use mathlib.Core.Logic.{⊎_elim}
+use mathlib.Core.Path.{sym}
 use native.Mathlib.Omega.{arith}
 use borrow.Author.Rules.{rules}
-use lib.ListN.{length}
-use Rattle.units.specs.Limits.{cores_limit}
-use Rattle.units.specs.Units.{nums}
-use Rattle.units.proofs.Units.{field_long, nums_at}
-use Rattle.assignment.proofs.Best.{Best, first, better, kept, last}
+use Rattle.units.proofs.Units.{nums_long, nums_at}
+use Rattle.assignment.proofs.Best.{first, better, kept, last}
+use Rattle.assignment.proofs.roomiest.Goals.{then-most-here, else-most-here}
 use Rattle.assignment.proofs.roomiest.Goals as goal
 
 pub loop-p-init : goal.loop-p-init
-loop-p-init c = (search (rules, field_long), omega arith, first _ _ (sym (nums_at c.args.room.shares 0)))
+loop-p-init c = (search (rules, nums_long), omega arith, first _ _ (sym (nums_at c.args.room.shares 0)))
 
 pub loop-p-preserved : goal.loop-p-preserved
 loop-p-preserved c =
@@ -21,10 +17,10 @@ loop-p-preserved c =
     let here = nums_at s at.p in (
       at.invariant.0,
       omega arith,
-      ⊎_elim
-          (λ w. rw (w.1, w.2) (better _ _ _ _ at.invariant.2 (omega arith) _ (sym here) (omega arith)))
-          (λ w. rw (w.1, w.2) (kept _ _ _ _ at.invariant.2 (omega arith) (omega arith)))
-          c.if-most-here.branch,
+      elim c.if-most-here.branch [
+        | then-most-here w ↦ rw (w.best-is, w.most-is) (better _ _ _ _ at.invariant.2 (omega arith) _ (sym here) (omega arith))
+        | else-most-here w ↦ rw (w.best-is, w.most-is) (kept _ _ _ _ at.invariant.2 (omega arith) (omega arith))
+      ],
     )
 
 pub returns : goal.returns

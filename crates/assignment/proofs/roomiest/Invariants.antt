@@ -1,14 +1,10 @@
 -- `assignment::roomiest` meets its contract.
 use Prim.Native.Nat.{◌≤◌, ◌-◌}
-use mathlib.Core.Path.{◌≡◌, sym}
-use mathlib.Core.Logic.{⊎_elim}
-use native.Mathlib.Omega.{arith}
-use borrow.Author.Rules.{rules}
+use mathlib.Core.Path.{◌≡◌}
 use lib.ListN.{length}
 use Rattle.units.specs.Limits.{cores_limit}
 use Rattle.units.specs.Units.{nums}
-use Rattle.units.proofs.Units.{field_long, nums_at}
-use Rattle.assignment.proofs.Best.{Best, first, better, kept, last}
+use Rattle.assignment.proofs.Best.{Best}
 use Rattle.assignment.proofs.roomiest.Given as goal
 
 abbrev pub invariant-loop-p : goal.invariant-loop-p
