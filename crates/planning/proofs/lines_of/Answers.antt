@@ -1,9 +1,9 @@
 -- `planning::lines_of` meets its contract.
 use Rattle.units.proofs.Units.{nums_length}
 use Rattle.units.specs.Limits.{tasks_limit}
-use Prim.Native.Nat.{◌+◌, ◌*◌, ◌-◌, ◌/◌, ◌≤◌}
+use Prim.Native.Nat.{◌+◌, ◌*◌}
 use borrow.Author.Rules.{rules}
-use Rattle.planning.proofs.Filling.{Filling, start, step, finish, line_at, rows_length}
+use Rattle.planning.proofs.Filling.{start, step, finish, line_at, rows_length}
 use Rattle.planning.specs.Plan.{empty_line}
 use Rattle.assignment.specs.Passes.{rows_of}
 use Rattle.units.specs.Units.{nums}

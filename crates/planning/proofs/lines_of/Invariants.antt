@@ -1,15 +1,10 @@
 -- `planning::lines_of` meets its contract.
-use Rattle.units.proofs.Units.{nums_length}
-use Rattle.units.specs.Limits.{tasks_limit}
-use Prim.Native.Nat.{◌+◌, ◌*◌, ◌-◌, ◌/◌, ◌≤◌}
-use borrow.Author.Rules.{rules}
-use Rattle.planning.proofs.Filling.{Filling, start, step, finish, line_at, rows_length}
-use Rattle.planning.specs.Plan.{empty_line}
+use Prim.Native.Nat.{◌-◌, ◌/◌, ◌≤◌}
+use Rattle.planning.proofs.Filling.{Filling}
 use Rattle.assignment.specs.Passes.{rows_of}
 use Rattle.units.specs.Units.{nums}
-use lib.ListN.{length, get_or}
-use native.Mathlib.Omega.{arith}
-use mathlib.Core.Path.{◌≡◌, refl}
+use lib.ListN.{length}
+use mathlib.Core.Path.{◌≡◌}
 use Rattle.planning.proofs.lines_of.Given as goal
 
 abbrev pub invariant-loop-k : goal.invariant-loop-k

@@ -4,7 +4,6 @@ use Rattle.planning.specs.Plan.{refused_plan, taken_plan}
 use Rattle.planning.specs.declared.Plan.{Plan}
 use Rattle.units.specs.declared.refusal.Refusal.{Refusal}
 use mathlib.Core.Path.{ap, ap₂, ◌∙◌}
-use borrow.Author.Rules.{rules}
 use Rattle.planning.proofs.plan_of.Goals as goal
 
 pub returns-then-refusal-ne0 : goal.returns-then-refusal-ne0

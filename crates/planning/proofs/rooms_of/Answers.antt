@@ -4,9 +4,8 @@ use mathlib.Core.List.{List}
 use Rattle.planning.proofs.Filling.{rooms_more}
 use Rattle.assignment.specs.Passes.{rooms}
 use Rattle.units.proofs.Units.{nums_set}
-use Rattle.units.specs.Units.{nums}
 use native.Mathlib.Omega.{arith}
-use Prim.Native.Nat.{ℕ, ◌-◌, ◌≤◌}
+use Prim.Native.Nat.{ℕ}
 use mathlib.Core.Path.{◌≡◌, refl, ap, ◌∙◌}
 use Rattle.planning.proofs.rooms_of.Goals as goal
 
@@ -27,8 +26,7 @@ loop-p-smaller c = omega arith
 
 pub loop-p-preserved : goal.loop-p-preserved
 loop-p-preserved c =
-    let l = c.loop-p in
-    (
+    let l = c.loop-p in (
       omega arith,
       nums_set l.room l.p (record { 0 = c.args.common }) ∙ ap (λ (xs : List ℕ). set xs l.p c.args.common) l.invariant.1
           ∙ rooms_more c.args.common l.p (omega (arith, c.requires)),
