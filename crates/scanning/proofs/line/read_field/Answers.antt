@@ -2,20 +2,19 @@
 use mathlib.Core.Path.{sym, ◌∙◌}
 use native.Mathlib.Omega.{arith}
 use Rattle.scanning.proofs.Fields.{inside, field_none, field_is, field_other}
-use borrow.Author.Rules.{rules}
 use Rattle.scanning.proofs.line.read_field.Goals as goal
 
 pub overflow_add-next : goal.overflow_add-next
 overflow_add-next c =
-    omega (arith, inside c.args.text.now c.v-1.given.0.1.0 c.args.end c.requires.1 (sym c.byte_at.ensures ∙ c.if-byte_at-end.true))
+    omega (arith, inside c.args.text.now c.in-Value.a c.args.end c.requires.1 (sym c.byte_at.ensures ∙ c.if-byte_at-end.true))
 
 pub returns-in-NoNumber : goal.returns-in-NoNumber
-returns-in-NoNumber c = sym (field_none _ _ _ _ (sym c.read_number.ensures ∙ c.enum_told-1.given.1))
+returns-in-NoNumber c = sym (field_none _ _ _ _ (sym c.in-NoNumber.ensures))
 
 pub returns-then-byte_at-end : goal.returns-then-byte_at-end
 returns-then-byte_at-end c =
-    sym (field_is _ _ _ _ (sym c.read_number.ensures ∙ c.v-1.given.1) (sym c.byte_at.ensures ∙ c.if-byte_at-end.true))
+    sym (field_is _ _ _ _ (sym c.in-Value.ensures) (sym c.byte_at.ensures ∙ c.if-byte_at-end.true))
 
 pub returns-else-byte_at-end : goal.returns-else-byte_at-end
 returns-else-byte_at-end c =
-    sym (field_other _ _ _ _ (sym c.read_number.ensures ∙ c.v-1.given.1) (λ e. c.if-byte_at-end.false (c.byte_at.ensures ∙ e)))
+    sym (field_other _ _ _ _ (sym c.in-Value.ensures) (λ e. c.if-byte_at-end.false (c.byte_at.ensures ∙ e)))

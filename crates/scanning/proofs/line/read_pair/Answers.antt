@@ -1,6 +1,5 @@
 -- `scanning::line::read_pair` meets its contract.
 use Rattle.scanning.specs.Line.{pair_at}
-use borrow.Author.Rules.{rules}
 use Rattle.scanning.proofs.line.read_pair.Goals as goal
 
 pub returns : goal.returns
