@@ -1,22 +1,22 @@
 -- `arrivals::arrivals_refusal` meets its contract.
 use Prim.Native.Nat.{◌-◌}
 use mathlib.Core.Path.{◌≡◌, refl, sym, ◌∙◌}
-use mathlib.Core.Logic.{⊎_elim}
-use lib.ListN.{length-map}
+use lib.ListN.{length}
+use Rattle.units.specs.Limits.{tasks_limit}
 use Rattle.arrivals.specs.Arrivals.{arrival_cost}
 use Rattle.arrivals.proofs.Tried.{Tried, start, cost_read, cost_none, tests_are, more, refused, all}
 use borrow.Author.Rules.{rules}
-use Rattle.arrivals.proofs.arrivals_refusal.Goals.{Joined-i-lt-TASKS}
+use Rattle.arrivals.proofs.arrivals_refusal.Goals.{Joined-i-lt-TASKS, then-i-lt-TASKS, else-i-lt-TASKS}
 use Rattle.arrivals.proofs.arrivals_refusal.Goals as goal
 
 -- the cost that is tested is that of the arrival's task
 cost_is : (c : Joined-i-lt-TASKS) → c.if-i-lt-TASKS.cost ≡ arrival_cost c.args.plan c.args.arrivals.now c.loop-k.k
 cost_is c =
-    let long = sym (length-map c.args.plan.lines _) ∙ c.well-formed.0.1.1.1.1.1.0.1.0.1 in
-    ⊎_elim
-    (λ t. cost_read c.args.plan.lines c.place_of-i.ensures t.3)
-    (λ t. cost_none c.args.plan.lines c.place_of-i.ensures long t.0.left t.1)
-    c.if-i-lt-TASKS.branch
+    let long : length c.args.plan.lines ≡ tasks_limit = search rules in
+    elim c.if-i-lt-TASKS.branch [
+      | then-i-lt-TASKS w ↦ cost_read c.args.plan.lines c.place_of-i.ensures w.cost-is
+      | else-i-lt-TASKS w ↦ cost_none c.args.plan.lines c.place_of-i.ensures long w.if-i-lt-TASKS.false w.cost-is
+    ]
 
 pub loop-k-init : goal.loop-k-init
 loop-k-init c = start _ _ _

@@ -1,11 +1,6 @@
 -- `arrivals::arrivals_refusal` meets its contract.
 use Prim.Native.Nat.{◌-◌}
-use mathlib.Core.Path.{◌≡◌, refl, sym, ◌∙◌}
-use mathlib.Core.Logic.{⊎_elim}
-use lib.ListN.{length-map}
-use Rattle.arrivals.specs.Arrivals.{arrival_cost}
-use Rattle.arrivals.proofs.Tried.{Tried, start, cost_read, cost_none, tests_are, more, refused, all}
-use borrow.Author.Rules.{rules}
+use Rattle.arrivals.proofs.Tried.{Tried}
 use Rattle.arrivals.proofs.arrivals_refusal.Given as goal
 
 abbrev pub invariant-loop-k : goal.invariant-loop-k

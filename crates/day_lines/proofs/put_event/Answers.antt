@@ -10,38 +10,29 @@ use Rattle.day_lines.proofs.Texts.{finished, refused, spanned, stopped, unfinish
 use borrow.Author.Rules.{rules}
 use Rattle.day_lines.proofs.put_event.Goals as goal
 
-pub returns-in-Finished : goal.returns-in-Finished
-returns-in-Finished c =
-    let v = c.event-1.given.0 in
-    let z = v.1.1.0 in
-    let f : SFits w64 z = search rules in
-    let w = recast (ap (λ (l : ℤ). finish_text v.0 v.1.0.0 l) (to_z-of_z w64 z f)) c.put_finish.ensures.wrote in
-    (recast (finished v.0 v.1.0 z c.event-1.given.1) w, search rules)
+pub returns-in-Finished-clause-wrote : goal.returns-in-Finished-clause-wrote
+returns-in-Finished-clause-wrote c =
+    let m = c.in-Finished in
+    let f : SFits w64 m.late = search rules in
+    let w = recast (ap (λ (l : ℤ). finish_text m.ran m.time.0 l) (to_z-of_z w64 m.late f)) c.put_finish.ensures.wrote in
+    recast (finished m.ran m.time m.late m.is) w
 
-pub returns-in-Refused : goal.returns-in-Refused
-returns-in-Refused c =
-    let v = c.event-in-Refused-1.given.0 in
-    let e = refused v.0 v.1.0 v.1.1.0 v.1.1.1.0 c.event-in-Refused-1.given.1 in
-    let w = c.put_refused in
-    (recast {b = w.new.0} {j = w.result} e w.ensures.0, search rules)
+pub returns-in-Refused-clause-wrote : goal.returns-in-Refused-clause-wrote
+returns-in-Refused-clause-wrote c =
+    let m = c.in-Refused in
+    recast (refused m.no m.arrival m.task m.time m.is) c.put_refused.ensures.wrote
 
-pub returns-in-Spanned : goal.returns-in-Spanned
-returns-in-Spanned c =
-    let v = c.event-in-Spanned-1.given.0 in
-    let e = spanned v.0 v.1.0 v.1.1.0 c.event-in-Spanned-1.given.1 in
-    let w = c.put_span in
-    (recast {b = w.new.0} {j = w.result} e w.ensures.0, search rules)
+pub returns-in-Spanned-clause-wrote : goal.returns-in-Spanned-clause-wrote
+returns-in-Spanned-clause-wrote c =
+    let m = c.in-Spanned in
+    recast (spanned m.ran m.from m.to m.is) c.put_span.ensures.wrote
 
-pub returns-in-Stopped : goal.returns-in-Stopped
-returns-in-Stopped c =
-    let v = c.event-in-Stopped-1.given.0 in
-    let e = stopped v.0 c.event-in-Stopped-1.given.1 in
-    let w = c.put_stop in
-    (recast {b = w.new.0} {j = w.result} e w.ensures.0, search rules)
+pub returns-in-Stopped-clause-wrote : goal.returns-in-Stopped-clause-wrote
+returns-in-Stopped-clause-wrote c =
+    let m = c.in-Stopped in
+    recast (stopped m.time m.is) c.put_stop.ensures.wrote
 
-pub returns-in-Unfinished : goal.returns-in-Unfinished
-returns-in-Unfinished c =
-    let v = c.event-in-Unfinished-1.given.0 in
-    let e = unfinished v.0 v.1.0 v.1.1.0 v.1.1.1.0 c.event-in-Unfinished-1.given.1 in
-    let w = c.put_unfinished in
-    (recast {b = w.new.0} {j = w.result} e w.ensures.0, search rules)
+pub returns-in-Unfinished-clause-wrote : goal.returns-in-Unfinished-clause-wrote
+returns-in-Unfinished-clause-wrote c =
+    let m = c.in-Unfinished in
+    recast (unfinished m.ran m.deadline m.had m.all m.is) c.put_unfinished.ensures.wrote

@@ -3,7 +3,7 @@ use Rattle.writing.proofs.Wrote.{then}
 use borrow.Author.Rules.{rules}
 use Rattle.day_lines.proofs.put_left.Goals as goal
 
-pub returns : goal.returns
-returns c =
+pub returns-clause-wrote : goal.returns-clause-wrote
+returns-clause-wrote c =
     let w = then (then c.put_field-a.ensures.wrote c.put_field-b.ensures.wrote) c.put_field-c.ensures.wrote in
-    (then w c.put_field.ensures.wrote, search rules)
+    then w c.put_field.ensures.wrote

@@ -3,6 +3,6 @@ use Rattle.writing.proofs.Wrote.{then}
 use borrow.Author.Rules.{rules}
 use Rattle.day_lines.proofs.put_ran.Goals as goal
 
-pub returns : goal.returns
-returns c =
-    (then (then c.put_field-a.ensures.wrote c.put_field-b.ensures.wrote) c.put_field.ensures.wrote, search rules)
+pub returns-clause-wrote : goal.returns-clause-wrote
+returns-clause-wrote c =
+    then (then c.put_field-a.ensures.wrote c.put_field-b.ensures.wrote) c.put_field.ensures.wrote

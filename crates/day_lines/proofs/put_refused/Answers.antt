@@ -4,8 +4,8 @@ use Rattle.day_lines.specs.Lines.{refused_text}
 use borrow.Author.Rules.{rules}
 use Rattle.day_lines.proofs.put_refused.Goals as goal
 
-pub returns : goal.returns
+pub returns-clause-wrote : goal.returns-clause-wrote
 unfolding refused_text
-returns c =
+returns-clause-wrote c =
     let w = then (then c.put_field-a.ensures.wrote c.put_field-b.ensures.wrote) c.put_field-c.ensures.wrote in
-    (then (then w c.put_field-d.ensures.wrote) c.put_byte.ensures, search rules)
+    then (then w c.put_field-d.ensures.wrote) c.put_byte.ensures

@@ -4,7 +4,7 @@ use Rattle.day_lines.specs.Lines.{stop_text}
 use borrow.Author.Rules.{rules}
 use Rattle.day_lines.proofs.put_stop.Goals as goal
 
-pub returns : goal.returns
+pub returns-clause-wrote : goal.returns-clause-wrote
 unfolding stop_text
-returns c =
-    (then c.put_field-a.ensures.wrote c.put_byte.ensures, search rules)
+returns-clause-wrote c =
+    then c.put_field-a.ensures.wrote c.put_byte.ensures

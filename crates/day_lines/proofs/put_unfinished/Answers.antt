@@ -4,8 +4,8 @@ use Rattle.day_lines.specs.Lines.{unfinished_text}
 use borrow.Author.Rules.{rules}
 use Rattle.day_lines.proofs.put_unfinished.Goals as goal
 
-pub returns : goal.returns
+pub returns-clause-wrote : goal.returns-clause-wrote
 unfolding unfinished_text
-returns c =
+returns-clause-wrote c =
     let w = then (then c.put_left-a.ensures.wrote c.put_field-b.ensures.wrote) c.put_field-c.ensures.wrote in
-    (then w c.put_byte.ensures, search rules)
+    then w c.put_byte.ensures

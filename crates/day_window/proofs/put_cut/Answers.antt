@@ -3,11 +3,11 @@ use Rattle.day_window.proofs.Windows.{cut, past}
 use borrow.Author.Rules.{rules}
 use Rattle.day_window.proofs.put_cut.Goals as goal
 
-pub returns-then-skipped-n : goal.returns-then-skipped-n
-returns-then-skipped-n c =
+pub returns-then-skipped-n-clause-windowed : goal.returns-then-skipped-n-clause-windowed
+returns-then-skipped-n-clause-windowed c =
     let w = c.put_text in
-    (cut {b = w.new.0} {k = w.result} c.put_event-n.ensures.wrote (search rules) c.if-skipped-n.true w.ensures, search rules)
+    cut {b = w.new.0} {k = w.result} c.put_event-n.ensures.wrote (search rules) c.if-skipped-n.true w.ensures
 
-pub returns-else-skipped-n : goal.returns-else-skipped-n
-returns-else-skipped-n c =
-    (past c.put_event-n.ensures.wrote c.if-skipped-n.false, search rules)
+pub returns-else-skipped-n-clause-windowed : goal.returns-else-skipped-n-clause-windowed
+returns-else-skipped-n-clause-windowed c =
+    past c.put_event-n.ensures.wrote c.if-skipped-n.false

@@ -6,10 +6,10 @@ use Rattle.day_writing.proofs.Said.{taken, refused}
 use borrow.Author.Rules.{rules}
 use Rattle.day_writing.proofs.put_arrival.Goals as goal
 
-pub returns-then-no-eq0 : goal.returns-then-no-eq0
-returns-then-no-eq0 c = let s = c.args in (recast (taken s.arrival s.task s.time c.if-no-eq0.true) (none _ _ _), search rules)
+pub returns-then-no-eq0-clause-windowed : goal.returns-then-no-eq0-clause-windowed
+returns-then-no-eq0-clause-windowed c = let s = c.args in recast (taken s.arrival s.task s.time c.if-no-eq0.true) (none _ _ _)
 
-pub returns : goal.returns
-returns c =
+pub returns-clause-windowed : goal.returns-clause-windowed
+returns-clause-windowed c =
     let s = c.args in
-    (told (refused s.arrival s.task s.time c.if-no-eq0.false) c.put_within.ensures.windowed refl, search rules)
+    told (refused s.arrival s.task s.time c.if-no-eq0.false) c.put_within.ensures.windowed refl

@@ -6,12 +6,12 @@ use Rattle.day_writing.proofs.Said.{no_span, a_span}
 use borrow.Author.Rules.{rules}
 use Rattle.day_writing.proofs.put_span.Goals as goal
 
-pub returns-then-same-old : goal.returns-then-same-old
-returns-then-same-old c =
+pub returns-then-same-old-clause-windowed : goal.returns-then-same-old-clause-windowed
+returns-then-same-old-clause-windowed c =
     let s = c.args in
-    (recast (no_span s.core s.old s.new.task s.new.run s.time.0 c.if-same-old.true) (none _ _ _), search rules)
+    recast (no_span s.core s.old s.new.task s.new.run s.time.0 c.if-same-old.true) (none _ _ _)
 
-pub returns : goal.returns
-returns c =
+pub returns-clause-windowed : goal.returns-clause-windowed
+returns-clause-windowed c =
     let s = c.args in
-    (told (a_span s.core s.old s.new.task s.new.run s.time.0 c.if-same-old.false) c.put_within.ensures.windowed refl, search rules)
+    told (a_span s.core s.old s.new.task s.new.run s.time.0 c.if-same-old.false) c.put_within.ensures.windowed refl

@@ -44,7 +44,7 @@ module _ (ln : Line) (st : State) (wk : Work) where
   some h k d r q = rw (ne_eqb st.live 0 h, k, r, d, q)
 
 pub returns-then-state-eq0 : goal.returns-then-state-eq0
-returns-then-state-eq0 c = let s = c.args in none s.line s.t2 s.t3 c.if-state-eq0.true
+returns-then-state-eq0 c = let s = c.args in none s.line s.state s.work c.if-state-eq0.true
 
 pub key-key-requires : goal.key-key-requires
 key-key-requires c =
@@ -54,4 +54,4 @@ key-key-requires c =
 pub returns : goal.returns
 returns c =
     let s = c.args in
-    some s.line s.t2 s.t3 c.if-state-eq0.false c.key-key.ensures c.due_after.ensures c.released-release.ensures refl
+    some s.line s.state s.work c.if-state-eq0.false c.key-key.ensures c.due_after.ensures c.released-release.ensures refl

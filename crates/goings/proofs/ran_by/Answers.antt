@@ -1,7 +1,6 @@
 -- `goings::ran_by` meets its contract.
 use Prim.Native.Nat.{◌+◌, ◌-◌, ◌*◌, ◌≤◌}
 use mathlib.Core.Path.{◌≡◌, refl, sym, ap, ◌∙◌}
-use mathlib.Core.Logic.{⊎_elim}
 use native.Mathlib.Omega.{arith}
 use borrow.Author.Rules.{rules}
 use lib.ListN.{length, get_or}
@@ -11,7 +10,7 @@ use Rattle.goings.specs.Going.{no_going, ran_by}
 use Rattle.goings.specs.Rows.{goings_in}
 use Rattle.goings.proofs.Ran.{ran_fits, ran_more, ran_same}
 use Rattle.goings.proofs.Rows.{goings_at}
-use Rattle.goings.proofs.ran_by.Goals.{In-loop-core}
+use Rattle.goings.proofs.ran_by.Goals.{In-loop-core, then-task-gt0, else-task-gt0}
 use Rattle.goings.proofs.ran_by.Goals as goal
 
 -- the core's task is the one that the list has
@@ -66,11 +65,11 @@ loop-core-preserved c =
     let gs = goings_in s.goings.now in
     let inv = c.loop-core.invariant in (
       omega arith,
-      ⊎_elim (λ w. rw w.2 (search rules)) (λ w. rw w.1 inv.1) c.if-task-gt0.branch,
-      ⊎_elim
-          (λ w. w.2 ∙ ran_more gs s.more s.had.now c.loop-core.core inv.2 (same (goal.at.loop-core-preserved c).In-loop-core) w.0.taken refl)
-          (λ w. w.1 ∙ ran_same gs s.more s.had.now c.loop-core.core inv.2 (same (goal.at.loop-core-preserved c).In-loop-core) w.0.left)
-          c.if-task-gt0.branch,
+      elim c.if-task-gt0.branch [ then-task-gt0 w ↦ rw w.had-is (search rules) | else-task-gt0 w ↦ rw w.had-is inv.1 ],
+      elim c.if-task-gt0.branch [
+        | then-task-gt0 w ↦ w.had-is ∙ ran_more gs s.more s.had.now c.loop-core.core inv.2 (same (goal.at.loop-core-preserved c).In-loop-core) w.if-task-gt0.true refl
+        | else-task-gt0 w ↦ w.had-is ∙ ran_same gs s.more s.had.now c.loop-core.core inv.2 (same (goal.at.loop-core-preserved c).In-loop-core) w.if-task-gt0.false
+      ],
     )
 
 pub shape_of-had : goal.shape_of-had
@@ -79,4 +78,4 @@ shape_of-had c = c.loop-core.invariant.1 ∙ sym c.requires.long
 pub returns : goal.returns
 returns c =
     let e : c.loop-core.core ≡ c.args.cores = omega arith in
-    rw e c.? c.loop-core.invariant.2
+    rw e at c.loop-core.invariant.2

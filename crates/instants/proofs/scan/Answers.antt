@@ -1,7 +1,6 @@
 -- `instants::scan` meets its contract.
 use Prim.Native.Nat.{◌-◌, ◌≤◌, ◌<◌}
 use mathlib.Core.Path.{◌≡◌, refl, sym, ◌∙◌}
-use mathlib.Core.Logic.{⊎_elim}
 use native.Mathlib.Omega.{arith}
 use borrow.Author.Rules.{rules}
 use lib.ListN.{length, get_or}
@@ -13,7 +12,7 @@ use Rattle.front_rows.proofs.Rows.{fronts_at}
 use Rattle.instants.specs.Seen.{seen_of, next_of}
 use Rattle.instants.proofs.Steps.{seen_more, seen_less, next_more}
 use Rattle.instants.proofs.Scanned.{sees_core}
-use Rattle.instants.proofs.scan.Goals.{After-front_in-front, Then-sees}
+use Rattle.instants.proofs.scan.Goals.{After-front_in-front, Then-sees, then-sees, else-sees}
 use Rattle.instants.proofs.scan.Goals as goal
 
 -- what is read is the task's front
@@ -58,15 +57,15 @@ loop-i-preserved c =
     let fs = fronts_in s.fronts.now in
     let inv = c.loop-i.invariant in (
       omega arith,
-      ⊎_elim (λ w. rw w.4 (search rules)) (λ w. rw w.1 inv.1) c.if-sees.branch,
-      ⊎_elim
-          (λ w. w.4 ∙ seen_more fs s.time.0 c.loop-i.i (own (goal.at.loop-i-preserved c).After-front_in-front) s.had.now inv.2 c.sees.ensures w.0.taken w.3.ensures)
-          (λ w. w.1 ∙ seen_less fs s.time.0 c.loop-i.i (own (goal.at.loop-i-preserved c).After-front_in-front) s.had.now inv.2 c.sees.ensures w.0.left)
-          c.if-sees.branch,
+      elim c.if-sees.branch [ then-sees w ↦ rw w.seen-is (search rules) | else-sees w ↦ rw w.seen-is inv.1 ],
+      elim c.if-sees.branch [
+        | then-sees w ↦ w.seen-is ∙ seen_more fs s.time.0 c.loop-i.i (own (goal.at.loop-i-preserved c).After-front_in-front) s.had.now inv.2 c.sees.ensures w.if-sees.true w.better.ensures
+        | else-sees w ↦ w.seen-is ∙ seen_less fs s.time.0 c.loop-i.i (own (goal.at.loop-i-preserved c).After-front_in-front) s.had.now inv.2 c.sees.ensures w.if-sees.false
+      ],
       next_more fs s.time.0 c.loop-i.i (own (goal.at.loop-i-preserved c).After-front_in-front) s.until.0 inv.3 c.ahead-next.ensures,
     )
 
 pub returns : goal.returns
 returns c =
     let e : c.loop-i.i ≡ c.args.count = omega arith in
-    (rw e c.? c.loop-i.invariant.2, rw e c.? c.loop-i.invariant.3)
+    record { seen_value = rw e at c.loop-i.invariant.2; next_value = rw e at c.loop-i.invariant.3 }

@@ -1,13 +1,18 @@
 -- `unfinished_runs::put_run` meets its contract.
-use mathlib.Core.Path.{refl}
-use mathlib.Core.Logic.{⊎_elim}
+use mathlib.Core.Path.{◌≡◌, refl}
+use mathlib.Core.Bool.{cond}
+use lib.Dec.{eqb}
 use Rattle.day_window.proofs.Saying.{told}
 use Rattle.unfinished_runs.proofs.Left.{oldest, younger, run_told}
 use borrow.Author.Rules.{rules}
+use Rattle.unfinished_runs.proofs.put_run.Goals.{then-k-eq0, else-k-eq0}
 use Rattle.unfinished_runs.proofs.put_run.Goals as goal
 
-pub returns : goal.returns
-returns c =
+pub returns-clause-windowed : goal.returns-clause-windowed
+returns-clause-windowed c =
     let s = c.args in
-    let h = ⊎_elim (λ t. oldest s.k s.had t.0.taken t.1) (λ t. younger s.k s.had t.0.left t.1) c.if-k-eq0.branch in
-    (told (run_told s.t6 s.t7 s.had s.task s.k h) c.put_within.ensures.windowed refl, search rules)
+    let h : c.if-k-eq0.ticks ≡ cond (eqb s.k 0) s.had 0 = elim c.if-k-eq0.branch [
+      | then-k-eq0 w ↦ oldest s.k s.had w.if-k-eq0.true w.ticks-is
+      | else-k-eq0 w ↦ younger s.k s.had w.if-k-eq0.false w.ticks-is
+    ] in
+    told (run_told s.state s.work s.had s.task s.k h) c.put_within.ensures.windowed refl

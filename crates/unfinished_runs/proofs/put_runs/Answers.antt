@@ -23,7 +23,7 @@ loop-k-preserved c =
 pub shape_of-out : goal.shape_of-out
 shape_of-out c = kept c.loop-k.invariant.wrote
 
-pub returns : goal.returns
-returns c =
+pub returns-clause-windowed : goal.returns-clause-windowed
+returns-clause-windowed c =
     let s = c.args in
-    (all 180 (runs_left s.state s.work s.had s.task) s.state.live c.loop-k.invariant c.loop-k-test.false, search rules)
+    all 180 (runs_left s.state s.work s.had s.task) s.state.live c.loop-k.invariant c.loop-k-test.false

@@ -12,7 +12,7 @@ use borrow.Author.Rules.{rules}
 use Rattle.unfinished_runs.proofs.put_unfinished.Goals as goal
 
 pub loop-i-init : goal.loop-i-init
-loop-i-init c = let s = c.args in begun (180 * runs_limit) (left_by s.t5 s.had.now) s.count _ _ _ refl
+loop-i-init c = let s = c.args in begun (180 * runs_limit) (left_by s.seats s.had.now) s.count _ _ _ refl
 
 pub bounds-had-i : goal.bounds-had-i
 bounds-had-i c =
@@ -27,13 +27,13 @@ pub loop-i-preserved : goal.loop-i-preserved
 loop-i-preserved c =
     let s = c.args in
     let k = c.loop-i.i in
-    onward (180 * runs_limit) (left_by s.t5 s.had.now) s.count c.loop-i.invariant _ c.loop-i-test.true
-    (left_more s.t5 s.had.now k (add-one k)) c.put_runs-end.ensures.windowed c.put_runs-end.ensures.upper_bound refl
+    onward (180 * runs_limit) (left_by s.seats s.had.now) s.count c.loop-i.invariant _ c.loop-i-test.true
+    (left_more s.seats s.had.now k (add-one k)) c.put_runs-end.ensures.windowed c.put_runs-end.ensures.upper_bound refl
 
 pub shape_of-out : goal.shape_of-out
 shape_of-out c = kept c.loop-i.invariant.wrote
 
-pub returns : goal.returns
-returns c =
+pub returns-clause-windowed : goal.returns-clause-windowed
+returns-clause-windowed c =
     let s = c.args in
-    (all (180 * runs_limit) (left_by s.t5 s.had.now) s.count c.loop-i.invariant c.loop-i-test.false, search rules)
+    all (180 * runs_limit) (left_by s.seats s.had.now) s.count c.loop-i.invariant c.loop-i-test.false

@@ -24,4 +24,4 @@ shape_of-fronts c = rw c.loop-i.invariant.0 (fresh_rows _ _ c.loop-i.i)
 pub returns : goal.returns
 returns c =
     let e : c.loop-i.i ≡ c.args.plan.count = omega arith in
-    rw e c.? c.loop-i.invariant.0
+    rw e at c.loop-i.invariant.0

@@ -10,10 +10,9 @@ use Rattle.day_window.proofs.Saying.{told}
 use borrow.Author.Rules.{rules}
 use Rattle.rehearsal.proofs.steps.put_finish.Goals as goal
 
--- src/steps.rt:66:1
-pub returns : goal.returns
-returns c =
+pub returns-clause-windowed : goal.returns-clause-windowed
+returns-clause-windowed c =
     let s = c.args in
     let f : SFits w64 s.ended.late = search rules in
     let ran : Ran = record { core = s.core; task = s.run.task; run = s.run.run } in
-    (told refl c.put_within.ensures.windowed (ap (λ (z : ℤ). Finished ran s.time z) (to_z-of_z w64 s.ended.late f)), search rules)
+    told refl c.put_within.ensures.windowed (ap (λ (z : ℤ). Finished ran s.time z) (to_z-of_z w64 s.ended.late f))

@@ -15,7 +15,6 @@ use Rattle.fronts.specs.Front.{front_of}
 use Rattle.fronts.specs.Inner.{Frontable}
 use Rattle.seats.specs.Seat.{seat, ended_of}
 use Rattle.seats.specs.Inner.{Endable}
-use Rattle.seats.proofs.Seat.end.Goals.{After-struct_known-2-1, Start}
 use Rattle.seats.proofs.Seat.end.Goals as goal
 
 -- the oldest run ended: what is left of the task, and of its lengths
@@ -28,34 +27,28 @@ module _ (ln : Line) (st : State) (wk : Work) (t : ℕ) {after : State} {less : 
   unfolding ended_of
   ended q e = rw (q, e, p, m)
 
--- the place where it begins
-abbrev start : After-struct_known-2-1 → Start
-start c = c.?
-
 pub overflow_cast-late : goal.overflow_cast-late
 overflow_cast-late c = pos_fits _ c.requires.time
 
 pub overflow_cast-late-2 : goal.overflow_cast-late-2
-overflow_cast-late-2 c = pos_fits _ (start c).requires.due
+overflow_cast-late-2 c = pos_fits _ c.requires.due
 
 pub overflow_sub-late : goal.overflow_sub-late
-overflow_sub-late c = let s = (start c).requires in sub_fits _ _ s.time s.due
+overflow_sub-late c = let s = c.requires in sub_fits _ _ s.time s.due
 
 pub without_run-after-requires : goal.without_run-after-requires
-without_run-after-requires c = (start c).requires.live
+without_run-after-requires c = c.requires.live
 
 pub without_run-less-requires : goal.without_run-less-requires
-without_run-less-requires c = (start c.?).requires.few
+without_run-less-requires c = c.requires.few
 
 pub front_of-front-requires : goal.front_of-front-requires
 front_of-front-requires c =
-    let s = start c.? in
-    let a = s.args in
-    can_show a.line a.self.state a.self.work a.time.0 c.without_run-after.ensures c.without_run-less.ensures s.pre
+    let a = c.args in
+    can_show a.line a.self.state a.self.work a.time.0 c.without_run-after.ensures c.without_run-less.ensures c.requires
 
 pub returns : goal.returns
 returns c =
-    let s = start c.? in
-    let a = s.args in
-    let late = sub_is _ _ s.pre.time s.pre.due in
+    let a = c.args in
+    let late = sub_is _ _ c.requires.time c.requires.due in
     ended a.line a.self.state a.self.work a.time.0 c.without_run-after.ensures c.without_run-less.ensures late c.front_of-front.ensures
