@@ -5,7 +5,6 @@ use mir.ValLaws.{to_z-of_z}
 use Rattle.writing.specs.Decimal.{signed_of}
 use Rattle.writing.proofs.Wrote.{then, recast}
 use Rattle.day_lines.specs.Lines.{finish_text}
-use borrow.Author.Rules.{rules}
 use Rattle.day_lines.proofs.put_finish.Goals as goal
 
 pub returns-clause-wrote : goal.returns-clause-wrote

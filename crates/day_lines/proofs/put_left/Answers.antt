@@ -1,6 +1,5 @@
 -- `day_lines::put_left` meets its contract.
 use Rattle.writing.proofs.Wrote.{then}
-use borrow.Author.Rules.{rules}
 use Rattle.day_lines.proofs.put_left.Goals as goal
 
 pub returns-clause-wrote : goal.returns-clause-wrote

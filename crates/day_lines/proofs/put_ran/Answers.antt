@@ -1,6 +1,5 @@
 -- `day_lines::put_ran` meets its contract.
 use Rattle.writing.proofs.Wrote.{then}
-use borrow.Author.Rules.{rules}
 use Rattle.day_lines.proofs.put_ran.Goals as goal
 
 pub returns-clause-wrote : goal.returns-clause-wrote

@@ -1,7 +1,6 @@
 -- `day_lines::put_span` meets its contract.
 use Rattle.writing.proofs.Wrote.{then}
 use Rattle.day_lines.specs.Lines.{span_text}
-use borrow.Author.Rules.{rules}
 use Rattle.day_lines.proofs.put_span.Goals as goal
 
 pub returns-clause-wrote : goal.returns-clause-wrote
