@@ -8,14 +8,14 @@ use Rattle.listing.proofs.listed.list.Goals as goal
 
 pub returns-then-not-sound : goal.returns-then-not-sound
 returns-then-not-sound c =
-    let a = unsound c.args.from c.args.buf.now (sym c.sound.ensures ∙ not-true c.sound.result c.if-not-sound.true) in
+    let a = unsound c.args.from c.args.buf.now (sym c.sound.ensures ∙ c.if-not-sound.true) in
     (c.unlisted.ensures ∙ a.0, a.1)
 
 pub list_plan-requires : goal.list_plan-requires
 list_plan-requires c =
-    (sound_facts c.args.from (sym c.sound.ensures ∙ not-false c.sound.result c.if-not-sound.false)).plan
+    (sound_facts c.args.from (sym c.sound.ensures ∙ c.if-not-sound.false)).plan
 
 pub returns : goal.returns
 returns c =
-    sound c.args.from c.args.buf.now (sym c.sound.ensures ∙ not-false c.sound.result c.if-not-sound.false)
+    sound c.args.from c.args.buf.now (sym c.sound.ensures ∙ c.if-not-sound.false)
     c.list_plan.ensures.value c.list_plan.ensures.buf_after

@@ -1,10 +1,9 @@
 -- `soundness::cores::cores_sound` meets its contract: the cores that are passed are sound or not.
-use Prim.Native.Nat.{ℕ, ◌+◌, ◌-◌, ◌≤◌}
+use Prim.Native.Nat.{ℕ, ◌+◌}
 use mathlib.Core.Path.{◌≡◌, refl, sym}
 use mathlib.Core.Bool.{Bool, ◌&&◌, ◌||◌, not}
 use native.Mathlib.Omega.{arith}
 use lib.Dec.{ltb, leb, eqb}
-use borrow.Author.Rules.{rules}
 use Rattle.units.specs.Limits.{cores_limit}
 use Rattle.lists.specs.Below.{all_below}
 use Rattle.lists.proofs.Below.{all_suc}
@@ -27,7 +26,7 @@ pub loop-p-preserved : goal.loop-p-preserved
 loop-p-preserved c =
     let s = c.args in (
       omega arith,
-      core_more s.cores s.common s.t1 c.loop-p.p _ _ _ _ _ c.core_within.ensures
+      core_more s.cores s.common s.sums c.loop-p.p _ _ _ _ _ c.core_within.ensures
           c.few_movers.ensures c.one_first.ensures c.guarded.ensures c.loop-p.invariant.1,
     )
 

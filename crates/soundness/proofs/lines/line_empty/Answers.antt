@@ -1,5 +1,4 @@
 -- `soundness::lines::line_empty` meets its contract.
-use borrow.Author.Rules.{rules}
 use Rattle.soundness.proofs.lines.line_empty.Goals as goal
 
 pub returns : goal.returns

@@ -1,5 +1,4 @@
 -- `soundness::lines::shares_sum` meets its contract.
-use borrow.Author.Rules.{rules}
 use Rattle.soundness.proofs.lines.shares_sum.Goals as goal
 
 pub returns : goal.returns

@@ -1,5 +1,4 @@
 -- `soundness::lines::weight_is` meets its contract: the products around C × L fit, and they tell the quotient.
-use borrow.Author.Rules.{rules}
 use native.Mathlib.Omega.{arith}
 use Rattle.soundness.proofs.Ranges.{in_range, quotient_test, product_fits}
 use Rattle.soundness.proofs.lines.weight_is.Goals as goal

@@ -4,7 +4,6 @@ use mathlib.Core.Path.{sym}
 use native.Mathlib.Nat.{eq-one_of_dvd-one}
 use borrow.Author.Tests.{eq-eqb, ne_eqb}
 use Rattle.arith.proofs.Euclid.{gcd_left}
-use borrow.Author.Rules.{rules}
 use Rattle.soundness.proofs.plan.divisor_with.Goals as goal
 
 pub returns-then-common-period-ne0 : goal.returns-then-common-period-ne0

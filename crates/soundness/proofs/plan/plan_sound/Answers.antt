@@ -1,13 +1,13 @@
 -- `soundness::plan::plan_sound` meets its contract: the tasks from i on are tested and summed.
-use Prim.Native.Nat.{◌+◌, ◌-◌, ◌<◌}
+use Prim.Native.Nat.{ℕ, ◌+◌, ◌-◌, ◌<◌}
 use mathlib.Core.Bool.{true}
 use mathlib.Core.Path.{◌≡◌, sym, ◌∙◌}
 use native.Mathlib.Omega.{arith}
-use lib.ListN.{length, get_or, length-map}
+use lib.ListN.{length, get_or}
 use borrow.Author.Rules.{rules}
-use borrow.Author.Tests.{not-true, not-false}
 use Rattle.units.specs.Limits.{tasks_limit}
 use Rattle.planning.specs.declared.Line.{Line}
+use Rattle.planning.specs.declared.Plan.{Plan}
 use Rattle.planning.specs.Plan.{no_line, row_of}
 use Rattle.soundness.specs.Rules.{numbers_in}
 use Rattle.soundness.specs.Plan.{line_sound}
@@ -22,17 +22,17 @@ use Rattle.soundness.proofs.plan.plan_sound.Goals.{Else-not-line_sound, Else-not
 use Rattle.soundness.proofs.plan.plan_sound.Goals as goal
 
 ranges : (c : Else-not-numbers_in) → numbers_in c.args.plan ≡ true
-ranges c = sym c.numbers_in.ensures ∙ not-false c.numbers_in.result c.if-not-numbers_in.false
+ranges c = sym c.numbers_in.ensures ∙ c.if-not-numbers_in.false
 
 known : (c : Else-not-numbers_in) → Numbers c.args.plan
 known c = numbers c.args.plan (ranges c)
 
 long : (c : Else-not-numbers_in) → length c.args.plan.lines ≡ tasks_limit
-long c = sym (length-map c.args.plan.lines _) ∙ c.well-formed.0.1.1.1.1.1.0.1.0.1
+long c = search rules
 
 -- the line that is tested, and the invariant there
-abbrev line_of : In-loop-i → Line
-line_of c = get_or c.args.plan.lines (c.loop-i.i - 1) no_line
+abbrev line_of : Plan → ℕ → Line
+line_of pl i = get_or pl.lines (i - 1) no_line
 
 low : (c : In-loop-i) → c.loop-i.i - 1 < tasks_limit
 low c = omega (arith, c.loop-i.invariant.0.below)
@@ -45,21 +45,18 @@ tested c =
     rw e c.loop-i.invariant
 
 sound : (c : Else-not-line_sound) →
-    line_sound c.args.plan.common (line_of c.?) ≡ true
-sound c = sym c.line_sound.ensures ∙ not-false c.line_sound.result c.if-not-line_sound.false
+    line_sound c.args.plan.common (line_of c.args.plan c.loop-i.i) ≡ true
+sound c = sym c.line_sound.ensures ∙ c.if-not-line_sound.false
 
 -- a task that is sound is in range
-in_use : (c : Else-not-line_sound) → InRange (line_of c.?)
+in_use : (c : Else-not-line_sound) → InRange (line_of c.args.plan c.loop-i.i)
 in_use c =
-    in_range (line_of c.?) (sound_in c.args.plan.common (line_of c.?) (sound c))
-
-pub numbers_in-requires : goal.numbers_in-requires
-numbers_in-requires c = tt
+    in_range (line_of c.args.plan c.loop-i.i) (sound_in c.args.plan.common (line_of c.args.plan c.loop-i.i) (sound c))
 
 pub returns-then-not-numbers_in : goal.returns-then-not-numbers_in
 returns-then-not-numbers_in c =
     let in_range = c.numbers_in in
-    sym (numbers_break c.args.plan (sym in_range.ensures ∙ not-true in_range.result c.if-not-numbers_in.true))
+    sym (numbers_break c.args.plan (sym in_range.ensures ∙ c.if-not-numbers_in.true))
 
 pub loop-i-init : goal.loop-i-init
 loop-i-init c =
@@ -75,15 +72,12 @@ offset_bounds-plan-i c = omega (arith, low c)
 pub bounds-plan-i : goal.bounds-plan-i
 bounds-plan-i c = omega (arith, low c)
 
-pub line_sound-requires : goal.line_sound-requires
-line_sound-requires c = tt
-
 pub returns-then-not-line_sound : goal.returns-then-not-line_sound
 returns-then-not-line_sound c =
     let pl = c.args.plan in
     sym (tasks_break pl (task_breaks pl (known (goal.at.returns-then-not-line_sound c).Else-not-numbers_in) (long (goal.at.returns-then-not-line_sound c).Else-not-numbers_in) c.loop-i.divisor (c.loop-i.i - 1) (tested (goal.at.returns-then-not-line_sound c).In-loop-i).0
     c.if-i-count.true
-    (sym c.line_sound.ensures ∙ not-true c.line_sound.result c.if-not-line_sound.true)))
+    (sym c.line_sound.ensures ∙ c.if-not-line_sound.true)))
 
 pub divisor_with-divisor-requires : goal.divisor_with-divisor-requires
 divisor_with-divisor-requires c = let r = in_use c in omega arith
@@ -100,8 +94,8 @@ with_line-sums-requires c =
     let pl = c.args.plan in
     let n = known (goal.at.with_line-sums-requires c).Else-not-numbers_in in (
       at_most_all pl (long (goal.at.with_line-sums-requires c).Else-not-numbers_in) c.loop-i.sums c.loop-i.i c.loop-i.invariant.1,
-      sound_sum pl.common (line_of c.?) (sound (goal.at.with_line-sums-requires c).Else-not-line_sound),
-      omega (arith, sound_small pl.common (line_of c.?) (sound (goal.at.with_line-sums-requires c).Else-not-line_sound), n.common_small),
+      sound_sum pl.common (line_of c.args.plan c.loop-i.i) (sound (goal.at.with_line-sums-requires c).Else-not-line_sound),
+      omega (arith, sound_small pl.common (line_of c.args.plan c.loop-i.i) (sound (goal.at.with_line-sums-requires c).Else-not-line_sound), n.common_small),
     )
 
 pub loop-i-smaller-then-i-count : goal.loop-i-smaller-then-i-count
@@ -115,18 +109,15 @@ loop-i-preserved-then-i-count c =
       task_more pl n (long (goal.at.loop-i-preserved-then-i-count c).Else-not-numbers_in) c.loop-i.divisor (c.loop-i.i - 1) (tested (goal.at.loop-i-preserved-then-i-count c).In-loop-i).0 c.if-i-count.true
           d.result (sound (goal.at.loop-i-preserved-then-i-count c).Else-not-line_sound) d.ensures c.if-divisor-eq0.false,
       more pl (long (goal.at.loop-i-preserved-then-i-count c).Else-not-numbers_in) c.loop-i.sums c.with_line-sums.result (c.loop-i.i - 1) (tested (goal.at.loop-i-preserved-then-i-count c).In-loop-i).1 (low (goal.at.loop-i-preserved-then-i-count c).In-loop-i) c.with_line-sums.ensures
-          (omega (arith, sound_sum pl.common (line_of c.?) (sound (goal.at.loop-i-preserved-then-i-count c).Else-not-line_sound), sound_small pl.common (line_of c.?) (sound (goal.at.loop-i-preserved-then-i-count c).Else-not-line_sound), n.common_small)),
+          (omega (arith, sound_sum pl.common (line_of c.args.plan c.loop-i.i) (sound (goal.at.loop-i-preserved-then-i-count c).Else-not-line_sound), sound_small pl.common (line_of c.args.plan c.loop-i.i) (sound (goal.at.loop-i-preserved-then-i-count c).Else-not-line_sound), n.common_small)),
     )
-
-pub line_empty-requires : goal.line_empty-requires
-line_empty-requires c = tt
 
 pub returns-then-not-line_empty : goal.returns-then-not-line_empty
 returns-then-not-line_empty c =
     let pl = c.args.plan in
     sym (tasks_break pl (past_breaks pl (known (goal.at.returns-then-not-line_empty c).Else-not-numbers_in) (long (goal.at.returns-then-not-line_empty c).Else-not-numbers_in) c.loop-i.divisor (c.loop-i.i - 1) (tested (goal.at.returns-then-not-line_empty c).In-loop-i).0
     c.if-i-count.false
-    (sym c.line_empty.ensures ∙ not-true c.line_empty.result c.if-not-line_empty.true)))
+    (sym c.line_empty.ensures ∙ c.if-not-line_empty.true)))
 
 pub loop-i-smaller : goal.loop-i-smaller
 loop-i-smaller c = omega arith
@@ -135,20 +126,17 @@ pub loop-i-preserved : goal.loop-i-preserved
 loop-i-preserved c =
     let pl = c.args.plan in
     let n = known (goal.at.loop-i-preserved c).Else-not-numbers_in in
-    let empty = sym c.line_empty.ensures ∙ not-false c.line_empty.result c.if-not-line_empty.false in
-    let zero = (empty_zero (line_of c.?) empty).shares in (
+    let empty = sym c.line_empty.ensures ∙ c.if-not-line_empty.false in
+    let zero = (empty_zero (line_of c.args.plan c.loop-i.i) empty).shares in (
       past_more pl n (long (goal.at.loop-i-preserved c).Else-not-numbers_in) c.loop-i.divisor (c.loop-i.i - 1) (tested (goal.at.loop-i-preserved c).In-loop-i).0 c.if-i-count.false (low (goal.at.loop-i-preserved c).In-loop-i) empty,
       more pl (long (goal.at.loop-i-preserved c).Else-not-numbers_in) c.loop-i.sums c.loop-i.sums (c.loop-i.i - 1) (tested (goal.at.loop-i-preserved c).In-loop-i).1 (low (goal.at.loop-i-preserved c).In-loop-i)
-          (none_more (row_of (line_of c.?)) c.loop-i.sums zero) (omega (arith, zero)),
+          (none_more (row_of (line_of c.args.plan c.loop-i.i)) c.loop-i.sums zero) (omega (arith, zero)),
     )
-
-pub cores_sound-requires : goal.cores_sound-requires
-cores_sound-requires c = tt
 
 pub returns : goal.returns
 returns c =
     let pl = c.args.plan in
     let e : c.loop-i.i ≡ 0 = omega arith in
-    let all = rw e c.? c.loop-i.invariant in
+    let all = rw e at c.loop-i.invariant in
     others_decide pl c.loop-i.sums _ _ (ranges (goal.at.returns c).Else-not-numbers_in)
     (finish pl (known (goal.at.returns c).Else-not-numbers_in) (long (goal.at.returns c).Else-not-numbers_in) c.loop-i.divisor all.0) c.cores_sound.ensures all.1.sums

@@ -1,17 +1,15 @@
 -- `soundness::sums::Sums::with_fixed` meets its contract: the cores below p have the task's share.
-use Prim.Native.Nat.{◌-◌}
-use mathlib.Core.Path.{◌≡◌, refl, sym, ◌∙◌}
+use mathlib.Core.Path.{◌≡◌, refl}
 use native.Mathlib.Omega.{arith}
 use borrow.Author.Rules.{rules}
 use Rattle.units.specs.Limits.{cores_limit}
-use Rattle.units.proofs.Units.{field_long, nums_length}
-use Rattle.soundness.proofs.Passed.{FixedPassed, load_fits, fixed_none, fixed_next, fixed_done}
+use Rattle.soundness.proofs.Passed.{load_fits, fixed_none, fixed_next, fixed_done}
 use Rattle.soundness.proofs.sums.Sums.with_fixed.Goals as goal
 
 pub loop-p-init : goal.loop-p-init
 loop-p-init c =
     let s = c.args.self in
-    fixed_none _ _ (sym (nums_length s.loads) ∙ search (rules, field_long)) (sym (nums_length s.fixed) ∙ search (rules, field_long))
+    fixed_none _ _ (search rules) (search rules)
 
 pub overflow_add-sum : goal.overflow_add-sum
 overflow_add-sum c =

@@ -1,11 +1,7 @@
 -- `soundness::sums::Sums::with_fixed` meets its contract: the cores below p have the task's share.
 use Prim.Native.Nat.{◌-◌}
-use mathlib.Core.Path.{◌≡◌, refl, sym, ◌∙◌}
-use native.Mathlib.Omega.{arith}
-use borrow.Author.Rules.{rules}
 use Rattle.units.specs.Limits.{cores_limit}
-use Rattle.units.proofs.Units.{field_long, nums_length}
-use Rattle.soundness.proofs.Passed.{FixedPassed, load_fits, fixed_none, fixed_next, fixed_done}
+use Rattle.soundness.proofs.Passed.{FixedPassed}
 use Rattle.soundness.proofs.sums.Sums.with_fixed.Given as goal
 
 abbrev pub invariant-loop-p : goal.invariant-loop-p

@@ -2,7 +2,6 @@
 use mathlib.Core.Path.{◌≡◌, sym, ap, ◌∙◌}
 use native.Mathlib.Omega.{arith}
 use lib.Dec.{ltb}
-use borrow.Author.Rules.{rules}
 use Rattle.task_shares.specs.Movers.{moves}
 use Rattle.planning.specs.Plan.{row_of}
 use Rattle.soundness.proofs.sums.Sums.with_line.Goals.{After-moves_by}

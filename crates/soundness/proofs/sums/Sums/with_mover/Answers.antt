@@ -1,16 +1,15 @@
 -- `soundness::sums::Sums::with_mover` meets its contract: the mover is counted on its first core, and the cores below p have its share.
-use Prim.Native.Nat.{◌-◌, ◌<◌}
-use mathlib.Core.Path.{◌≡◌, refl, sym, ◌∙◌}
-use mathlib.Core.Logic.{⊎_elim}
+use Prim.Native.Nat.{◌<◌}
+use mathlib.Core.Path.{◌≡◌, refl}
 use native.Mathlib.Omega.{arith}
 use lib.ListN.{length}
 use borrow.Author.Rules.{rules}
 use Rattle.units.specs.Limits.{cores_limit}
 use Rattle.units.specs.Units.{nums}
-use Rattle.units.proofs.Units.{field_long, nums_length, nums_long}
+use Rattle.units.proofs.Units.{nums_long}
 use Rattle.soundness.proofs.Added.{first_there}
-use Rattle.soundness.proofs.Passed.{MoverPassed, load_fits, movers_fit, mover_none, mover_next, mover_skip, mover_done}
-use Rattle.soundness.proofs.sums.Sums.with_mover.Goals.{After-first_core-first}
+use Rattle.soundness.proofs.Passed.{load_fits, movers_fit, mover_none, mover_next, mover_skip, mover_done}
+use Rattle.soundness.proofs.sums.Sums.with_mover.Goals.{After-first_core-first, then-s-gt0, else-s-gt0}
 use Rattle.soundness.proofs.sums.Sums.with_mover.Goals as goal
 
 first-low : (c : After-first_core-first) → c.first_core-first.result < cores_limit
@@ -37,7 +36,7 @@ bounds-sums-first-2 c = let h = first-low (goal.at.bounds-sums-first-2 c).After-
 pub loop-p-init : goal.loop-p-init
 loop-p-init c =
     let s = c.args.self in
-    mover_none _ _ _ (sym (nums_length s.loads) ∙ search (rules, field_long)) (search rules) (sym (nums_length s.heaviest) ∙ search (rules, field_long))
+    mover_none _ _ _ (search rules) (search rules) (search rules)
 
 pub overflow_add-sum : goal.overflow_add-sum
 overflow_add-sum c =
@@ -49,10 +48,10 @@ overflow_add-sums-then-s-gt0 c =
 
 pub loop-p-preserved : goal.loop-p-preserved
 loop-p-preserved c =
-    ⊎_elim
-    (λ t. rw t.4 (mover_next _ _ _ _ _ _ _ c.loop-p.invariant (omega arith) t.0.taken refl t.3.ensures))
-    (λ t. rw t.1 (mover_skip _ _ _ _ _ _ c.loop-p.invariant (omega arith) t.0.left refl))
-    c.if-s-gt0.branch
+    elim c.if-s-gt0.branch [
+      | then-s-gt0 w ↦ rw w.sums-is (mover_next _ _ _ _ _ _ _ c.loop-p.invariant (omega arith) w.if-s-gt0.true refl w.heavier-heaviest.ensures)
+      | else-s-gt0 w ↦ rw w.sums-is (mover_skip _ _ _ _ _ _ c.loop-p.invariant (omega arith) w.if-s-gt0.false refl)
+    ]
 
 pub returns : goal.returns
 returns c =
