@@ -1,9 +1,6 @@
 -- `line_place::line_place` meets its contract.
-use Prim.Native.Nat.{◌-◌}
 use mathlib.Core.Path.{sym, ◌∙◌}
-use lib.ListN.{length}
-use Rattle.line_place.proofs.Places.{Seeking, first, found, passed, none}
-use borrow.Author.Rules.{rules}
+use Rattle.line_place.proofs.Places.{first, found, passed, none}
 use Rattle.line_place.proofs.line_place.Goals as goal
 
 pub loop-at-init : goal.loop-at-init

@@ -1,9 +1,7 @@
 -- `line_place::line_place` meets its contract.
 use Prim.Native.Nat.{◌-◌}
-use mathlib.Core.Path.{sym, ◌∙◌}
 use lib.ListN.{length}
-use Rattle.line_place.proofs.Places.{Seeking, first, found, passed, none}
-use borrow.Author.Rules.{rules}
+use Rattle.line_place.proofs.Places.{Seeking}
 use Rattle.line_place.proofs.line_place.Given as goal
 
 abbrev pub invariant-loop-at : goal.invariant-loop-at

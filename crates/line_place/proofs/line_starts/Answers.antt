@@ -1,7 +1,6 @@
 -- `line_place::line_starts` meets its contract.
 use mathlib.Core.Path.{refl}
 use borrow.Author.Tests.{ne_eqb}
-use borrow.Author.Rules.{rules}
 use Rattle.line_place.proofs.line_starts.Goals as goal
 
 pub returns-then-at-eq0 : goal.returns-then-at-eq0
