@@ -5,8 +5,7 @@ use Rattle.day_window.proofs.put_cut.Goals as goal
 
 pub returns-then-skipped-n-clause-windowed : goal.returns-then-skipped-n-clause-windowed
 returns-then-skipped-n-clause-windowed c =
-    let w = c.put_text in
-    cut {b = w.new.0} {k = w.result} c.put_event-n.ensures.wrote (search rules) c.if-skipped-n.true w.ensures
+    cut c.put_event-n.ensures.wrote (search rules) c.if-skipped-n.true c.put_text.ensures
 
 pub returns-else-skipped-n-clause-windowed : goal.returns-else-skipped-n-clause-windowed
 returns-else-skipped-n-clause-windowed c =

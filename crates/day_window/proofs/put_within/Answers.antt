@@ -1,6 +1,5 @@
 -- `day_window::put_within` meets its contract.
 use Rattle.day_window.proofs.Windows.{inside, before}
-use borrow.Author.Rules.{rules}
 use Rattle.day_window.proofs.put_within.Goals as goal
 
 pub returns-then-skip-at-clause-windowed : goal.returns-then-skip-at-clause-windowed
