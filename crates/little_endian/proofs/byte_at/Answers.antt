@@ -1,7 +1,6 @@
 -- `little_endian::byte_at` meets its contract.
 use mathlib.Core.Path.{sym}
 use lib.ListN.{get_or-eq_default}
-use borrow.Author.Rules.{rules}
 use Rattle.little_endian.proofs.byte_at.Goals as goal
 
 pub returns-else-at-bytes : goal.returns-else-at-bytes

@@ -1,6 +1,5 @@
 -- `little_endian::number32` meets its contract.
 use Rattle.little_endian.proofs.At.{number_at}
-use borrow.Author.Rules.{rules}
 use Rattle.little_endian.proofs.number32.Goals as goal
 
 pub returns : goal.returns
