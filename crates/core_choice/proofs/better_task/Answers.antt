@@ -23,11 +23,11 @@ module _ (b : Best) (i : ℕ) (ln : Line) (st : State) (k x : ℕ) (w : waits ln
 
 -- one that waits
 waiting : (c : Else-not-waits) → let s = c.args in waits s.line s.state s.core s.time.0 ≡ true
-waiting c = sym c.waits.ensures ∙ not-false c.waits.result c.if-not-waits.false
+waiting c = sym c.waits.ensures ∙ c.if-not-waits.false
 
 -- a task that does not wait on the core changes nothing
 pub returns-then-not-waits : goal.returns-then-not-waits
-returns-then-not-waits c = rw (sym c.waits.ensures ∙ not-true c.waits.result c.if-not-waits.true)
+returns-then-not-waits c = rw (sym c.waits.ensures ∙ c.if-not-waits.true)
 
 pub key-key-requires : goal.key-key-requires
 key-key-requires c = let p = c.requires in (p.0, p.1, p.2)

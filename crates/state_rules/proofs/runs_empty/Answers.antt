@@ -28,7 +28,7 @@ pub returns-then-not-empty : goal.returns-then-not-empty
 returns-then-not-empty c =
     let st = c.args.state in
     let at = c.loop-k in
-    sym (all_fails runs_limit at.k (λ j. run_empty (run_at st j)) (omega arith) (sym c.empty.ensures ∙ not-true _ c.if-not-empty.true))
+    sym (all_fails runs_limit at.k (λ j. run_empty (run_at st j)) (omega arith) (sym c.empty.ensures ∙ c.if-not-empty.true))
 
 pub overflow_add-k : goal.overflow_add-k
 overflow_add-k c = omega arith
@@ -39,7 +39,7 @@ loop-k-smaller c = omega arith
 pub loop-k-preserved : goal.loop-k-preserved
 loop-k-preserved c =
     let at = c.loop-k in
-    (omega arith, all_more _ _ at.invariant.1 (sym c.empty.ensures ∙ not-false _ c.if-not-empty.false))
+    (omega arith, all_more _ _ at.invariant.1 (sym c.empty.ensures ∙ c.if-not-empty.false))
 
 pub returns : goal.returns
 returns c = let e : c.loop-k.k ≡ runs_limit = omega arith in sym (rw e at c.loop-k.invariant.1)

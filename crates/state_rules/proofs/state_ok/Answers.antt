@@ -11,12 +11,12 @@ use Rattle.state_rules.proofs.state_ok.Goals as goal
 
 -- the counts sum to the place
 summed : (c : Else-not-sums_to) → let st = c.args.state in eqb (total st.counts) st.place ≡ true
-summed c = sym c.sums_to.ensures ∙ not-false _ c.if-not-sums_to.false
+summed c = sym c.sums_to.ensures ∙ c.if-not-sums_to.false
 
 pub returns-then-not-sums_to : goal.returns-then-not-sums_to
 returns-then-not-sums_to c =
     let a = c.args in
-    sym (other_sum a.state a.line a.used (sym c.sums_to.ensures ∙ not-true _ c.if-not-sums_to.true))
+    sym (other_sum a.state a.line a.used (sym c.sums_to.ensures ∙ c.if-not-sums_to.true))
 
 pub returns-then-used : goal.returns-then-used
 returns-then-used c =

@@ -9,31 +9,25 @@ use mir.Val.{SFits, to_z, of_z}
 use mir.ValLaws.{to_z-of_z}
 use mathlib.Core.Path.{◌≡◌, sym, ◌∙◌}
 use borrow.Author.Rules.{rules}
-use Rattle.dispatch.proofs.Record.finish_or.Goals.{After-finish_tests-no, After-shared_tests-no, After-struct_known-then-no-eq0-2-1, Start, Then-no-eq0, Then-no-eq0-2}
+use Rattle.units.specs.Refusals.{task_no}
+use Rattle.call_tests.specs.Tests.{shared_tests}
+use Rattle.dispatch.specs.Sound.{sound_of}
+use mathlib.Core.Bool.{Bool}
+use Rattle.dispatch.specs.declared.Record.{Record}
+use Prim.Native.Nat.{ℕ}
+use Rattle.dispatch.proofs.Record.finish_or.Goals.{Start, Then-no-eq0}
 use Rattle.dispatch.proofs.Record.finish_or.Goals as goal
 
--- the places where the call begins, where it has passed the tests of every call, and where it has passed its own
-abbrev start : Then-no-eq0 → Start
-start c = c.?
-
-abbrev passed : After-finish_tests-no → Then-no-eq0
-passed c = c.?
-
-abbrev taken : After-struct_known-then-no-eq0-2-1 → Then-no-eq0-2
-taken c = c.?
-
 -- what was tested first
-first : (c : After-shared_tests-no) → let s = c.args in c.shared_tests-no.result ≡ task_tests s.t1 s.task s.time.0
+first : (r : Record) (i t : ℕ) {sound : Bool} {n : ℕ} → sound ≡ sound_of r → n ≡ shared_tests sound task_no r.plan.count i r.clock.0 t → n ≡ task_tests r i t
 unfolding task_tests
-first c = rw c.sound-sound.ensures at c.shared_tests-no.ensures
+first r i t e q = rw e at q
 
 -- what is known after that
-known : (c : Then-no-eq0) → let s = (start c).args in TaskCall s.t1 s.task s.time.0
-known c = task_call (sym (first c.?) ∙ c.if-no-eq0.true)
-
--- the finish's number
-own : (c : After-finish_tests-no) → let s = (start (passed c)).args in c.finish_tests-no.result ≡ finish_refusal s.t1 s.task s.time.0
-own c = c.finish_tests-no.ensures ∙ sym (known (passed c)).finish_number
+known : (c : Then-no-eq0) → let s = c.args in TaskCall s.self s.task s.time.0
+known c =
+    let s = c.args in
+    task_call (sym (first s.self s.task s.time.0 c.sound-sound.ensures c.shared_tests-no.ensures) ∙ c.if-no-eq0.true)
 
 -- a lateness that is handed back is seen as the bits of a signed number
 same : (s : Start) → to_z w64 (of_z w64 s.args.late) ≡ s.args.late
@@ -54,44 +48,44 @@ offset_bounds-self-i c = omega (arith, (known (goal.at.offset_bounds-self-i c).T
 pub bounds-self-i : goal.bounds-self-i
 bounds-self-i c = omega (arith, (known (goal.at.bounds-self-i c).Then-no-eq0).below)
 
+pub offset_bounds-self-i-then-no-eq0-2 : goal.offset_bounds-self-i-then-no-eq0-2
+offset_bounds-self-i-then-no-eq0-2 c = omega (arith, (known (goal.at.offset_bounds-self-i-then-no-eq0-2 c).Then-no-eq0).below)
+
+pub bounds-self-i-then-no-eq0-2 : goal.bounds-self-i-then-no-eq0-2
+bounds-self-i-then-no-eq0-2 c = omega (arith, (known (goal.at.bounds-self-i-then-no-eq0-2 c).Then-no-eq0).below)
+
 pub finish_tests-no-requires : goal.finish_tests-no-requires
 finish_tests-no-requires c = (known (goal.at.finish_tests-no-requires c).Then-no-eq0).time_in
 
 pub overflow_cast-by : goal.overflow_cast-by
-overflow_cast-by c = pos_fits _ (known (passed c.?)).time_fits
+overflow_cast-by c = pos_fits _ (known (goal.at.overflow_cast-by c).Then-no-eq0).time_fits
 
 pub overflow_cast-by-then-no-eq0-2 : goal.overflow_cast-by-then-no-eq0-2
-overflow_cast-by-then-no-eq0-2 c = pos_fits _ (known (passed (taken c).before)).due_fits
+overflow_cast-by-then-no-eq0-2 c = pos_fits _ (known (goal.at.overflow_cast-by-then-no-eq0-2 c).Then-no-eq0).due_fits
 
 pub overflow_sub-by : goal.overflow_sub-by
-overflow_sub-by c = let k = known (passed (taken c).before) in sub_fits _ _ k.time_fits k.due_fits
+overflow_sub-by c = let k = (known (goal.at.overflow_sub-by c).Then-no-eq0) in sub_fits _ _ k.time_fits k.due_fits
 
 pub without_run-after-requires : goal.without_run-after-requires
-without_run-after-requires c =
-    let k = taken c in
-    (known (passed k.before)).can_finish (sym k.before.finish_tests_lem.ensures ∙ k.if2.taken)
-
-pub offset_bounds-self-i-then-no-eq0-2 : goal.offset_bounds-self-i-then-no-eq0-2
-offset_bounds-self-i-then-no-eq0-2 c = omega (arith, (known (passed (taken c.?).before)).below)
-
-pub bounds-self-i-then-no-eq0-2 : goal.bounds-self-i-then-no-eq0-2
-bounds-self-i-then-no-eq0-2 c = omega (arith, (known (passed (taken c.?).before)).below)
+without_run-after-requires c = (known (goal.at.without_run-after-requires c).Then-no-eq0).can_finish (sym c.finish_tests-no.ensures ∙ c.if-no-eq0-2.true)
 
 pub returns-then-no-eq0-2 : goal.returns-then-no-eq0-2
 returns-then-no-eq0-2 c =
-    let k = taken c.? in
-    let s = (start (passed k.before)).args in
-    let p = known (passed k.before) in
-    let late = sub_is _ _ p.time_fits p.due_fits in
-    sym (finish_or_taken s.t1 s.task s.time.0 s.late (own k.before) k.if2.taken late c.without_run-after.ensures)
+    let s = c.args in
+    let k = known (goal.at.returns-then-no-eq0-2 c).Then-no-eq0 in
+    let own = c.finish_tests-no.ensures ∙ sym k.finish_number in
+    let late = sub_is _ _ k.time_fits k.due_fits in
+    sym (finish_or_taken s.self s.task s.time.0 s.late own c.if-no-eq0-2.true late c.without_run-after.ensures)
 
 pub returns-else-no-eq0-2 : goal.returns-else-no-eq0-2
 returns-else-no-eq0-2 c =
-    let s = (start (passed c.?)).args in
-    sym (finish_or_refused s.t1 s.task s.time.0 s.late (own (goal.at.returns-else-no-eq0-2 c).After-finish_tests-no) c.if-no-eq0-2.false (same (start (passed c.?))))
+    let s = c.args in
+    let own = c.finish_tests-no.ensures ∙ sym (known (goal.at.returns-else-no-eq0-2 c).Then-no-eq0).finish_number in
+    sym (finish_or_refused s.self s.task s.time.0 s.late own c.if-no-eq0-2.false (same (goal.at.returns-else-no-eq0-2 c).Start))
 
 pub returns-else-no-eq0 : goal.returns-else-no-eq0
 returns-else-no-eq0 c =
     let s = c.args in
-    let n = finish_first s.t1 s.task s.time.0 (first (goal.at.returns-else-no-eq0 c).After-shared_tests-no) c.if-no-eq0.false in
-    sym (finish_or_refused s.t1 s.task s.time.0 s.late n c.if-no-eq0.false (same (goal.at.returns-else-no-eq0 c).Start))
+    let q = first s.self s.task s.time.0 c.sound-sound.ensures c.shared_tests-no.ensures in
+    let n = finish_first s.self s.task s.time.0 q c.if-no-eq0.false in
+    sym (finish_or_refused s.self s.task s.time.0 s.late n c.if-no-eq0.false (same (goal.at.returns-else-no-eq0 c).Start))

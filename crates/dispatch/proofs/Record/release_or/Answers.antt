@@ -13,31 +13,23 @@ use lib.ListN.{set}
 use native.Mathlib.Omega.{arith}
 use mathlib.Core.Path.{◌≡◌, sym, ◌∙◌}
 use borrow.Author.Rules.{rules}
-use Rattle.dispatch.proofs.Record.release_or.Goals.{After-due-1, After-release_tests-no, After-shared_tests-no, Start, Then-no-eq0, Then-no-eq0-2}
+use Rattle.units.specs.Refusals.{task_no}
+use Rattle.call_tests.specs.Tests.{shared_tests}
+use Rattle.dispatch.specs.Sound.{sound_of}
+use mathlib.Core.Bool.{Bool}
+use Rattle.dispatch.proofs.Record.release_or.Goals.{Then-no-eq0}
 use Rattle.dispatch.proofs.Record.release_or.Goals as goal
 
--- the places where the call begins, where it has passed the tests of every call, and where it has passed its own
-abbrev start : Then-no-eq0 → Start
-start c = c.?
-
-abbrev passed : After-release_tests-no → Then-no-eq0
-passed c = c.?
-
-abbrev taken : After-due-1 → Then-no-eq0-2
-taken c = c.?
-
 -- what was tested first
-first : (c : After-shared_tests-no) → let s = c.args in c.shared_tests-no.result ≡ task_tests s.t1 s.task s.time.0
+first : (r : Record) (i t : ℕ) {sound : Bool} {n : ℕ} → sound ≡ sound_of r → n ≡ shared_tests sound task_no r.plan.count i r.clock.0 t → n ≡ task_tests r i t
 unfolding task_tests
-first c = rw c.sound-sound.ensures at c.shared_tests-no.ensures
+first r i t e q = rw e at q
 
 -- what is known after that
-known : (c : Then-no-eq0) → let s = (start c).args in TaskCall s.t1 s.task s.time.0
-known c = task_call (sym (first c.?) ∙ c.if-no-eq0.true)
-
--- the release's number
-own : (c : After-release_tests-no) → let s = (start (passed c)).args in c.release_tests-no.result ≡ release_refusal s.t1 s.task s.time.0
-own c = c.release_tests-no.ensures ∙ sym (known (passed c)).release_number
+known : (c : Then-no-eq0) → let s = c.args in TaskCall s.self s.task s.time.0
+known c =
+    let s = c.args in
+    task_call (sym (first s.self s.task s.time.0 c.sound-sound.ensures c.shared_tests-no.ensures) ∙ c.if-no-eq0.true)
 
 -- a release that is taken at this time as run x, field by field
 release_told : (r : Record) (i : ℕ) (time : Ticks) (core : ℕ) (deadline : Ticks) {n : ℕ} {x : Taken} → n ≡ release_refusal r i time.0 → n ≡ 0
@@ -69,27 +61,30 @@ pub release_tests-no-requires : goal.release_tests-no-requires
 release_tests-no-requires c = (known (goal.at.release_tests-no-requires c).Then-no-eq0).last
 
 pub with_run-taken-requires : goal.with_run-taken-requires
-with_run-taken-requires c = (known (passed c.?)).can_release (sym c.release_tests-no.ensures ∙ c.if-no-eq0-2.true)
+with_run-taken-requires c =
+    (known (goal.at.with_run-taken-requires c).Then-no-eq0).can_release (sym c.release_tests-no.ensures ∙ c.if-no-eq0-2.true)
 
 pub offset_bounds-self-i-then-no-eq0-2 : goal.offset_bounds-self-i-then-no-eq0-2
-offset_bounds-self-i-then-no-eq0-2 c = omega (arith, (known (passed (taken c).before)).below)
+offset_bounds-self-i-then-no-eq0-2 c = omega (arith, (known (goal.at.offset_bounds-self-i-then-no-eq0-2 c).Then-no-eq0).below)
 
 pub bounds-self-i-then-no-eq0-2 : goal.bounds-self-i-then-no-eq0-2
-bounds-self-i-then-no-eq0-2 c = omega (arith, (known (passed (taken c).before)).below)
+bounds-self-i-then-no-eq0-2 c = omega (arith, (known (goal.at.bounds-self-i-then-no-eq0-2 c).Then-no-eq0).below)
 
 pub returns-then-no-eq0-2 : goal.returns-then-no-eq0-2
 returns-then-no-eq0-2 c =
-    let k = taken c in
-    let s = (start (passed k.before)).args in
-    release_told s.t1 s.task s.time s.core s.deadline (own k.before) k.if2.taken c.with_run-taken.ensures
+    let s = c.args in
+    let own = c.release_tests-no.ensures ∙ sym (known (goal.at.returns-then-no-eq0-2 c).Then-no-eq0).release_number in
+    release_told s.self s.task s.time s.core s.deadline own c.if-no-eq0-2.true c.with_run-taken.ensures
 
 pub returns-else-no-eq0-2 : goal.returns-else-no-eq0-2
 returns-else-no-eq0-2 c =
-    let s = (start (passed c.?)).args in
-    sym (release_or_refused s.t1 s.task s.time.0 s.core s.deadline (own (goal.at.returns-else-no-eq0-2 c).After-release_tests-no) c.if-no-eq0-2.false)
+    let s = c.args in
+    let own = c.release_tests-no.ensures ∙ sym (known (goal.at.returns-else-no-eq0-2 c).Then-no-eq0).release_number in
+    sym (release_or_refused s.self s.task s.time.0 s.core s.deadline own c.if-no-eq0-2.false)
 
 pub returns-else-no-eq0 : goal.returns-else-no-eq0
 returns-else-no-eq0 c =
     let s = c.args in
-    let n = release_first s.t1 s.task s.time.0 (first (goal.at.returns-else-no-eq0 c).After-shared_tests-no) c.if-no-eq0.false in
-    sym (release_or_refused s.t1 s.task s.time.0 s.core s.deadline n c.if-no-eq0.false)
+    let q = first s.self s.task s.time.0 c.sound-sound.ensures c.shared_tests-no.ensures in
+    let n = release_first s.self s.task s.time.0 q c.if-no-eq0.false in
+    sym (release_or_refused s.self s.task s.time.0 s.core s.deadline n c.if-no-eq0.false)

@@ -32,9 +32,9 @@ returns-then-self-gt-CLOCK c = sym (rw (lt-leb c.args.self.clock.0 clock_limit c
 
 pub returns-then-not-states_sound : goal.returns-then-not-states_sound
 returns-then-not-states_sound c =
-    by_states c.args.self c.if-self-gt-CLOCK.false (sym c.states_sound.ensures ∙ not-true c.states_sound.result c.if-not-states_sound.true)
+    by_states c.args.self c.if-self-gt-CLOCK.false (sym c.states_sound.ensures ∙ c.if-not-states_sound.true)
 
 pub returns : goal.returns
 returns c =
     c.plan_sound.ensures
-    ∙ by_plan c.args.self c.if-self-gt-CLOCK.false (sym c.states_sound.ensures ∙ not-false c.states_sound.result c.if-not-states_sound.false)
+    ∙ by_plan c.args.self c.if-self-gt-CLOCK.false (sym c.states_sound.ensures ∙ c.if-not-states_sound.false)

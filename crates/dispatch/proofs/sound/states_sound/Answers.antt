@@ -30,8 +30,8 @@ pub returns-then-not-state_ok : goal.returns-then-not-state_ok
 returns-then-not-state_ok c =
     let s = c.args in
     let i = c.loop-i.i in
-    let fails = sym c.state_ok.ensures ∙ not-true c.state_ok.result c.if-not-state_ok.true in
-    sym (all_fails tasks_limit i (state_ok s.t1 s.t2) (omega arith) fails)
+    let fails = sym c.state_ok.ensures ∙ c.if-not-state_ok.true in
+    sym (all_fails tasks_limit i (state_ok s.plan s.states) (omega arith) fails)
 
 pub overflow_add-i : goal.overflow_add-i
 overflow_add-i c = omega arith
@@ -43,8 +43,8 @@ pub loop-i-preserved : goal.loop-i-preserved
 loop-i-preserved c =
     let s = c.args in
     let at = c.loop-i in
-    let holds = sym c.state_ok.ensures ∙ not-false c.state_ok.result c.if-not-state_ok.false in
-    (omega arith, all_more at.i (state_ok s.t1 s.t2) at.invariant.1 holds)
+    let holds = sym c.state_ok.ensures ∙ c.if-not-state_ok.false in
+    (omega arith, all_more at.i (state_ok s.plan s.states) at.invariant.1 holds)
 
 pub returns : goal.returns
 returns c =

@@ -16,7 +16,7 @@ use Rattle.task_state.proofs.State.key.Goals as goal
 -- the key by the standing that is found
 keyed : (c : After-stands) (s : Standing) → c.stands.result ≡ s →
     let a = c.args in
-    cond (is_upper s) 0 (cond (is_lower s) 1 (2 + deadline_of a.t1)) ≡ key_of a.line a.t1 a.core
+    cond (is_upper s) 0 (cond (is_lower s) 1 (2 + deadline_of a.self)) ≡ key_of a.line a.self a.core
 keyed c s e =
     let a = c.args in
     let p : ℕ = a.core - 1 in
@@ -26,13 +26,13 @@ keyed c s e =
     rw (upper_stands p (row_of a.line), lower_stands p (row_of a.line), k)
 
 pub returns-in-Upper : goal.returns-in-Upper
-returns-in-Upper c = keyed (goal.at.returns-in-Upper c).After-stands Upper c.enum_told-1.given.1
+returns-in-Upper c = keyed (goal.at.returns-in-Upper c).After-stands Upper c.in-Upper.is
 
 pub returns-in-Lower : goal.returns-in-Lower
-returns-in-Lower c = keyed (goal.at.returns-in-Lower c).After-stands Lower c.enum_told-in-Lower-1.given.1
+returns-in-Lower c = keyed (goal.at.returns-in-Lower c).After-stands Lower c.in-Lower.is
 
 pub returns-in-Fixed : goal.returns-in-Fixed
-returns-in-Fixed c = keyed (goal.at.returns-in-Fixed c).After-stands Fixed c.enum_told-in-Fixed-1.given.1
+returns-in-Fixed c = keyed (goal.at.returns-in-Fixed c).After-stands Fixed c.in-Fixed.is
 
 pub returns-in-Absent : goal.returns-in-Absent
-returns-in-Absent c = keyed (goal.at.returns-in-Absent c).After-stands Absent c.enum_told-in-Absent-1.given.1
+returns-in-Absent c = keyed (goal.at.returns-in-Absent c).After-stands Absent c.in-Absent.is
