@@ -2,7 +2,6 @@
 use Prim.Native.Nat.{ℕ}
 use mathlib.Core.Path.{◌≡◌, ◌∙◌}
 use mathlib.Core.Bool.{Bool}
-use borrow.Author.Rules.{rules}
 use Rattle.units.specs.declared.ticks.Duration.{Duration}
 use Rattle.units.specs.Units.{duration}
 use Rattle.planning.specs.declared.Line.{Line}

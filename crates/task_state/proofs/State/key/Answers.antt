@@ -3,7 +3,6 @@ use Prim.Native.Nat.{ℕ, ◌+◌, ◌-◌}
 use mathlib.Core.Path.{◌≡◌, sym, ap, ◌∙◌}
 use mathlib.Core.Bool.{cond}
 use lib.Dec.{ltb}
-use borrow.Author.Rules.{rules}
 use Rattle.task_shares.specs.Standing.{standing_on}
 use Rattle.task_shares.proofs.Stands.{is_upper, is_lower, upper_stands, lower_stands, found}
 use Rattle.task_shares.specs.declared.standing.Standing.{Standing}

@@ -4,7 +4,6 @@ use mathlib.Core.Path.{◌≡◌, refl}
 use mathlib.Core.Bool.{Bool, not, ◌&&◌}
 use lib.Dec.{ltb, eqb}
 use lib.ListN.{get_or}
-use borrow.Author.Rules.{rules}
 use Rattle.units.specs.declared.ticks.Duration.{Duration}
 use Rattle.units.specs.Units.{duration}
 use Rattle.planning.specs.declared.Line.{Line}

@@ -8,7 +8,7 @@ use Rattle.units.specs.declared.ticks.Ticks.{Ticks}
 use Rattle.units.specs.Limits.{cores_limit, clock_limit}
 use Rattle.units.specs.declared.ticks.Duration.{Duration}
 use Rattle.units.specs.Units.{ticks, duration}
-use Rattle.units.proofs.Units.{field_long}
+use Rattle.units.proofs.Units.{nums_long}
 use Rattle.planning.specs.declared.Line.{Line}
 use Rattle.planning.specs.Plan.{row_of}
 use Rattle.turn.specs.declared.Turn.{Turn}
@@ -24,7 +24,7 @@ core_in_lem : (s : Start) → (turn_at s.args.line s.args.self).core ≤ cores_l
 core_in_lem s =
     let ln = s.args.line in
     let st = s.args.self in
-    let wide : length (row_of ln) ≡ cores_limit = search (rules, field_long) in
+    let wide : length (row_of ln) ≡ cores_limit = nums_long ln.shares cores_limit (search rules) in
     let long : length st.counts ≡ cores_limit = search rules in
     (turn_keeps ln.weight.0 st.place (row_of ln) st.counts s.requires.turn wide long).to
 
