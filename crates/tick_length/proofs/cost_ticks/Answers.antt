@@ -1,6 +1,5 @@
 -- `tick_length::cost_ticks` meets its contract.
 use mathlib.Core.Path.{ap, ◌∙◌}
-use borrow.Author.Rules.{rules}
 use Rattle.tick_length.specs.Inner.{held}
 use Rattle.tick_length.proofs.cost_ticks.Goals as goal
 

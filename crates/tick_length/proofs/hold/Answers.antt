@@ -1,6 +1,5 @@
 -- `tick_length::hold` meets its contract.
 use mathlib.Core.Path.{sym}
-use borrow.Author.Rules.{rules}
 use Rattle.tick_length.proofs.NoneLost.{held_small, held_large}
 use Rattle.tick_length.proofs.hold.Goals as goal
 

@@ -1,5 +1,4 @@
 -- `tick_length::rounded` meets its contract.
-use borrow.Author.Rules.{rules}
 use Rattle.tick_length.proofs.rounded.Goals as goal
 
 pub returns-then-up : goal.returns-then-up
