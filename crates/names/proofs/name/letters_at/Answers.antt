@@ -1,8 +1,5 @@
 -- `names::name::letters_at` meets its contract.
-use Prim.Native.Nat.{◌-◌}
-use lib.ListN.{length}
-use borrow.Author.Rules.{rules}
-use Rattle.names.proofs.Letters.{Counted, begun, more, counted, letters_none, letters_past}
+use Rattle.names.proofs.Letters.{begun, more, counted, letters_none, letters_past}
 use Rattle.names.proofs.name.letters_at.Goals as goal
 
 pub loop-next-init : goal.loop-next-init

@@ -1,8 +1,7 @@
 -- `names::name::letters_at` meets its contract.
 use Prim.Native.Nat.{◌-◌}
 use lib.ListN.{length}
-use borrow.Author.Rules.{rules}
-use Rattle.names.proofs.Letters.{Counted, begun, more, counted, letters_none, letters_past}
+use Rattle.names.proofs.Letters.{Counted}
 use Rattle.names.proofs.name.letters_at.Given as goal
 
 abbrev pub invariant-loop-next : goal.invariant-loop-next

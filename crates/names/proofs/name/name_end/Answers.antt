@@ -1,6 +1,5 @@
 -- `names::name::name_end` meets its contract.
 use native.Mathlib.Omega.{arith}
-use borrow.Author.Rules.{rules}
 use Rattle.names.proofs.Letters.{letters_room}
 use Rattle.names.proofs.Ends.{end_empty, end_long, end_past, end_is, end_other}
 use Rattle.names.proofs.name.name_end.Goals as goal
