@@ -1,12 +1,7 @@
 -- `state_rules::runs_empty` meets its contract.
-use Prim.Native.Nat.{◌-◌, ◌≤◌}
 use mathlib.Core.Path.{◌≡◌, sym, ◌∙◌}
-use mathlib.Core.Bool.{true}
 use native.Mathlib.Omega.{arith}
-use borrow.Author.Rules.{rules}
-use borrow.Author.Tests.{not-true, not-false}
 use Rattle.units.specs.Limits.{runs_limit}
-use Rattle.lists.specs.Below.{all_below}
 use Rattle.lists.proofs.Below.{all_none, all_more, all_fails}
 use Rattle.task_state.specs.State.{run_at}
 use Rattle.stored_runs.specs.Run.{run_empty}

@@ -1,23 +1,20 @@
 -- `state_rules::runs_sound` meets its contract.
-use Prim.Native.Nat.{ℕ, ◌+◌, ◌-◌, ◌≤◌, ◌<◌}
+use Prim.Native.Nat.{ℕ, ◌+◌, ◌≤◌, ◌<◌}
 use mathlib.Core.Path.{◌≡◌, sym, ◌∙◌}
 use mathlib.Core.Bool.{true, false}
 use native.Mathlib.Omega.{arith}
-use borrow.Author.Rules.{rules}
 use borrow.Author.Tests.{lt-leb, le-leb}
 use Rattle.units.specs.declared.ticks.Duration.{Duration}
 use Rattle.units.specs.Units.{duration}
 use Rattle.units.specs.Limits.{cores_limit, clock_limit, runs_limit}
-use Rattle.lists.specs.Below.{all_below}
 use Rattle.lists.proofs.Below.{all_none, all_more, all_fails}
 use Rattle.planning.specs.declared.Line.{Line}
-use Rattle.stored_runs.specs.declared.Run.{Run}
 use Rattle.task_state.specs.declared.State.{State}
 use Rattle.task_state.specs.State.{run_at}
 use Rattle.task_state.specs.Due.{due_after}
 use Rattle.state_rules.specs.Sound.{run_rule, runs_sound}
-use Rattle.state_rules.proofs.Ruled.{rule_by, placed, placed_in, unplaced, unfinished, rule_by_lem, past}
-use Rattle.state_rules.proofs.runs_sound.Goals.{Else-not-placed, then-k-live, else-k-live}
+use Rattle.state_rules.proofs.Ruled.{placed, placed_in, unplaced, unfinished, rule_by_lem, past}
+use Rattle.state_rules.proofs.runs_sound.Goals.{Else-not-placed, then-k-live+else-not-placed+else-not-sound, else-k-live+else-not-empty}
 use Rattle.state_rules.proofs.runs_sound.Goals as goal
 
 -- the latest deadline is the rule's
@@ -80,8 +77,8 @@ loop-k-preserved c =
     let latest = latest_is ln c.due_after-after.ensures in
     let keeps : run_rule ln st k ≡ true =
     elim c.if-k-live.branch [
-      then-k-live w ↦ unfinished ln st k latest w.if-k-live.true (sym w.placed.ensures ∙ w.if-not-placed.false) ∙ sym w.sound.ensures ∙ w.if-not-sound.false
-    | else-k-live w ↦ past ln st k w.if-k-live.false ∙ sym w.empty.ensures ∙ w.if-not-empty.false
+      | then-k-live+else-not-placed+else-not-sound w ↦ unfinished ln st k latest w.if-k-live.true (sym w.placed.ensures ∙ w.if-not-placed.false) ∙ sym w.sound.ensures ∙ w.if-not-sound.false
+      | else-k-live+else-not-empty w ↦ past ln st k w.if-k-live.false ∙ sym w.empty.ensures ∙ w.if-not-empty.false
     ] in
     (omega arith, all_more _ _ c.loop-k.invariant.1 (rule_by_lem ln st k latest ∙ keeps))
 

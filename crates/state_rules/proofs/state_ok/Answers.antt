@@ -1,8 +1,6 @@
 -- `state_rules::state_ok` meets its contract.
 use mathlib.Core.Path.{◌≡◌, sym, ◌∙◌}
 use mathlib.Core.Bool.{true}
-use borrow.Author.Rules.{rules}
-use borrow.Author.Tests.{not-true, not-false}
 use lib.Dec.{eqb}
 use Rattle.lists.specs.Lists.{total}
 use Rattle.state_rules.proofs.Ruled.{other_sum, used_left, other_left}

@@ -1,13 +1,11 @@
 -- `state_rules::sums_to` meets its contract.
-use Prim.Native.Nat.{◌*◌, ◌-◌, ◌≤◌}
 use mathlib.Core.Path.{◌≡◌}
 use native.Mathlib.Numerals.{add-one}
 use native.Mathlib.Omega.{arith}
-use lib.ListN.{length, take}
+use lib.ListN.{length}
 use lib.Seq.{take_all}
 use borrow.Author.Rules.{rules}
 use Rattle.units.specs.Limits.{cores_limit}
-use Rattle.lists.specs.Lists.{total}
 use Rattle.lists.proofs.Lists.{sum_take_suc}
 use Rattle.state_rules.proofs.sums_to.Goals as goal
 

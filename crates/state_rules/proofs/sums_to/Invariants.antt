@@ -1,14 +1,9 @@
 -- `state_rules::sums_to` meets its contract.
 use Prim.Native.Nat.{◌*◌, ◌-◌, ◌≤◌}
 use mathlib.Core.Path.{◌≡◌}
-use native.Mathlib.Numerals.{add-one}
-use native.Mathlib.Omega.{arith}
-use lib.ListN.{length, take}
-use lib.Seq.{take_all}
-use borrow.Author.Rules.{rules}
+use lib.ListN.{take}
 use Rattle.units.specs.Limits.{cores_limit}
 use Rattle.lists.specs.Lists.{total}
-use Rattle.lists.proofs.Lists.{sum_take_suc}
 use Rattle.state_rules.proofs.sums_to.Given as goal
 
 -- the counts so far are added
