@@ -1,15 +1,12 @@
 -- How a task stands on a core says what the tests on its row say.
 use Prim.Native.Nat.{ℕ, ◌<◌}
 use mathlib.Core.Path.{◌≡◌, refl, sym, ap, ◌∙◌}
-use mathlib.Core.Logic.{⊎_elim}
 use mathlib.Core.Bool.{Bool, true, false, cond, not, ◌&&◌, and-false}
-use mathlib.Core.List.{List, [], ◌∷◌}
+use mathlib.Core.List.{List}
 use native.Mathlib.Omega.{arith}
 use lib.Dec.{ltb, eqb}
 use lib.ListN.{get_or}
 use borrow.Author.Tests.{ltb-true, ltb-false, eq-eqb, ne_eqb}
-use types.Run.{OneOf}
-use denote.Enum.Declared.{tag_of}
 use Rattle.units.specs.declared.share.Share.{Share}
 use Rattle.units.specs.Units.{share, nums}
 use Rattle.units.proofs.Units.{nums_at}
@@ -20,7 +17,6 @@ use Rattle.task_shares.specs.declared.standing.Standing.{Standing}
 use Rattle.task_shares.specs.declared.standing.Standing.TheVariants.{Absent, Fixed, Lower, Upper}
 use Rattle.task_shares.specs.Movers.{has, fixed, moves, first_core, fixed_on, moves_on, lower, upper}
 use Rattle.task_shares.specs.Standing.{standing_by, standing_on}
-use Rattle.task_shares.specs.contracts.standing.Standing.{the_type}
 
 -- the tests by the standing
 abbrev pub is_upper : Standing → Bool
@@ -94,8 +90,8 @@ pub found : (ss : List Share) (p f : ℕ) (m : Bool) → m ≡ moves (nums ss) �
 found ss p f m e g = rw (e, g, nums_at ss p)
 
 -- a match that leaves the upper movers to another arm
-pub but_upper : (s : Standing) → OneOf (0 ∷ 1 ∷ 2 ∷ []) (tag_of the_type s) → is_upper s ≡ false
+pub but_upper : (s : Standing) → (s ≡ Upper → ⊥) → is_upper s ≡ false
 but_upper Absent h = refl
 but_upper Fixed h = refl
 but_upper Lower h = refl
-but_upper Upper h = absurd (⊎_elim (λ e. absurd (omega arith)) (⊎_elim (λ e. absurd (omega arith)) (λ e. absurd (omega arith))) h)
+but_upper Upper h = absurd (h refl)

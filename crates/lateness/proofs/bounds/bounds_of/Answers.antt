@@ -3,13 +3,14 @@ use Prim.Native.Nat.{ℕ, ◌+◌, ◌-◌, ◌≤◌, ◌<◌}
 use mathlib.Core.Path.{◌≡◌, refl, sym, ap, ◌∙◌}
 use native.Mathlib.Omega.{arith}
 use lib.Dec.{ltb}
-use lib.ListN.{length, get_or, drop, set, length-set, length-map}
+use lib.ListN.{length, get_or, set, length-set}
 use borrow.Author.Tests.{ltb-true, ltb-false}
 use Rattle.units.specs.Limits.{tasks_limit, cores_limit}
 use Rattle.lists.specs.Lists.{parts}
 use Rattle.lists.proofs.Lists.{most_ge}
 use Rattle.task_shares.specs.Movers.{moves}
 use Rattle.planning.specs.declared.Line.{Line}
+use Rattle.planning.specs.declared.Plan.{Plan}
 use Rattle.planning.specs.Plan.{no_line, row_of}
 use Rattle.lateness.specs.declared.movers.Movers.{Movers}
 use Rattle.lateness.specs.Inner.{MoversOf}
@@ -17,12 +18,12 @@ use Rattle.lateness.proofs.Front.{as_mover, first_there, lower_front}
 use Rattle.lateness.proofs.Gathered.{gathered_past, gathered_next, unmoved_upper, unmoved_lower}
 use Rattle.lateness.proofs.Tasks.{AllNoted, noted_none, noted_next, periods_small, reaches_small, fixed_small, tasks_late}
 use borrow.Author.Rules.{rules}
-use Rattle.lateness.proofs.bounds.bounds_of.Goals.{After-first_core-first, After-loop-i, At-loop-i, Start, Then-moves}
+use Rattle.lateness.proofs.bounds.bounds_of.Goals.{After-first_core-first, After-loop-i, Start, Then-moves}
 use Rattle.lateness.proofs.bounds.bounds_of.Goals as goal
 
 -- the lines of all tasks
 lines_long : (s : Start) → length s.args.plan.lines ≡ tasks_limit
-lines_long s = sym (length-map s.args.plan.lines _) ∙ s.well-formed.0.1.1.1.1.1.0.1.0.1
+lines_long s = search rules
 
 -- after the loop all movers are known
 all : (c : After-loop-i)
@@ -40,17 +41,17 @@ noted c =
     rw e at c.loop-i.invariant.3
 
 -- the line that is read
-abbrev read : At-loop-i → Line
-read at = get_or at.before.args.t1.lines (at.loop.i - 1) no_line
+abbrev read : Plan → ℕ → Line
+read pl i = get_or pl.lines (i - 1) no_line
 
 -- whether it moves
-tells : (f : After-first_core-first) → f.moves_by-moves.result ≡ moves (row_of (read f.?))
+tells : (f : After-first_core-first) → f.moves_by-moves.result ≡ moves (row_of (read f.args.plan f.loop-i.i))
 tells f = f.moves_by-moves.ensures ∙ ap (ltb 1) f.parts_of.ensures
 
 -- one task more is noted
 noted_more : (f : After-first_core-first) →
     let j = f.loop-i.i - 1 in
-    AllNoted f.args.plan j (set f.loop-i.moving j f.moves_by-moves.result) (set f.loop-i.periods j (read f.?).period.0)
+    AllNoted f.args.plan j (set f.loop-i.moving j f.moves_by-moves.result) (set f.loop-i.periods j (read f.args.plan f.loop-i.i).period.0)
     (set f.loop-i.firsts j f.first_core-first.result)
 noted_more f =
     let e : (f.loop-i.i - 1) + 1 ≡ f.loop-i.i = omega arith in
@@ -59,10 +60,10 @@ noted_more f =
 
 -- if it moves its first core is a core
 core-there : (c : Then-moves) →
-    (1 < parts (row_of (read c.?))) × (c.first_core-first.result < cores_limit)
+    (1 < parts (row_of (read c.args.plan c.loop-i.i))) × (c.first_core-first.result < cores_limit)
 core-there c =
-    let ln = read c.? in
-    let m : 1 < parts (row_of ln) = ltb-true 1 (parts (row_of ln)) (sym (tells c.?) ∙ c.if-moves.true) in
+    let ln = read c.args.plan c.loop-i.i in
+    let m : 1 < parts (row_of ln) = ltb-true 1 (parts (row_of ln)) (sym (tells (goal.at.bounds-shares-first c).After-first_core-first) ∙ c.if-moves.true) in
     (m, omega (arith, c.first_core-first.ensures, first_there c.args.plan c.requires (c.loop-i.i - 1) m))
 
 pub loop-i-init : goal.loop-i-init
@@ -126,7 +127,7 @@ loop-i-preserved-then-moves c =
     let e : j + 1 ≡ c.loop-i.i = omega arith in
     let f = c.first_core-first in
     let t = core-there (goal.at.loop-i-preserved-then-moves c).Then-moves in
-    let ln = read c.? in
+    let ln = read c.args.plan c.loop-i.i in
     let low = lower_front ln c.loop-i.lower f.result c.mover_on-mover.result t.0 f.ensures
     (c.mover_on-mover.ensures ∙ as_mover ln f.result f.result f.ensures) (omega (arith, t.1, c.loop-i.invariant.2)) in (
       omega arith,
@@ -146,7 +147,7 @@ loop-i-preserved c =
     let j : ℕ = c.loop-i.i - 1 in
     let e : j + 1 ≡ c.loop-i.i = omega arith in
     let ms : Movers = record { upper = c.loop-i.upper; lower = c.loop-i.lower } in
-    let ln = read c.? in
+    let ln = read c.args.plan c.loop-i.i in
     let k : parts (row_of ln) ≤ 1 = ltb-false 1 (parts (row_of ln)) (sym (tells (goal.at.loop-i-preserved c).After-first_core-first) ∙ c.if-moves.false) in (
       omega arith,
       gathered_next pl.lines j ms ms (omega (arith, lines_long (goal.at.loop-i-preserved c).Start)) (rw e c.loop-i.invariant.1)

@@ -1,14 +1,13 @@
 -- `lateness::bounds::fixed_of` meets its contract: the bounds of the first p cores are known, and past the last core there is no mover.
 use native.Mathlib.Omega.{arith}
-use Prim.Native.Nat.{◌-◌, ◌≤◌, ◌<◌}
+use Prim.Native.Nat.{◌≤◌, ◌<◌}
 use mathlib.Core.Path.{refl, sym, ◌∙◌}
 use lib.Dec.{ltb}
 use lib.ListN.{get_or-eq_default}
 use borrow.Author.Tests.{ltb-true, ltb-false}
 use Rattle.lists.proofs.Tests.{by_cases}
-use Rattle.lists.proofs.Filled.{Stored, stored_none, store_next}
+use Rattle.lists.proofs.Filled.{stored_none, store_next}
 use Rattle.units.specs.Limits.{cores_limit}
-use Rattle.lateness.specs.Lateness.{fixed_late}
 use Rattle.lateness.proofs.Modest.{movers_in_range, movers_late, fixed_beyond}
 use Rattle.lateness.proofs.bounds.fixed_of.Goals as goal
 
@@ -28,12 +27,11 @@ pub bounds-movers-p-in-loop-p : goal.bounds-movers-p-in-loop-p
 bounds-movers-p-in-loop-p c = omega arith
 
 pub fixed_on-requires : goal.fixed_on-requires
-fixed_on-requires c =
-    (
-      c.requires.3,
-      movers_in_range c.args.plan c.requires.0 c.loop-p.p _ c.requires.1 c.args.reaches.now (omega arith)
-          c.requires.2,
-    )
+fixed_on-requires c = (
+  c.requires.3,
+  movers_in_range c.args.plan c.requires.0 c.loop-p.p _ c.requires.1 c.args.reaches.now (omega arith)
+      c.requires.2,
+)
 
 pub offset_bounds-bounds-p : goal.offset_bounds-bounds-p
 offset_bounds-bounds-p c = omega arith

@@ -1,7 +1,6 @@
 -- `lateness::bounds::fixed_on` meets its contract.
 use native.Mathlib.Omega.{arith}
 use Rattle.lateness.proofs.Bounded.{work_le, divided}
-use borrow.Author.Rules.{rules}
 use Rattle.lateness.proofs.bounds.fixed_on.Goals as goal
 
 pub overflow_mul-own-3 : goal.overflow_mul-own-3

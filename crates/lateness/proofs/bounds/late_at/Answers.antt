@@ -6,7 +6,6 @@ use lib.IntN.{pos, sub_ℕ}
 use mir.Syntax.{w64}
 use mir.ValLaws.{to_z_pos}
 use Rattle.arith.proofs.Signed.{pos_fits, sub_fits, sub_is}
-use borrow.Author.Rules.{rules}
 use Rattle.lateness.proofs.bounds.late_at.Goals as goal
 
 pub overflow_cast-result : goal.overflow_cast-result

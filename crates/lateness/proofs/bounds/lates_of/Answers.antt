@@ -1,15 +1,11 @@
 -- `lateness::bounds::lates_of` meets its contract: the bounds of the first i tasks are known.
 use native.Mathlib.Omega.{arith}
-use Prim.Native.Nat.{◌-◌}
 use mathlib.Core.Path.{refl, ◌∙◌}
-use lib.IntN.{pos}
 use lib.ListN.{get_or}
 use mir.Syntax.{w64}
 use mir.Val.{SFits}
 use mir.ValLaws.{to_z-of_z}
-use Rattle.units.specs.Limits.{tasks_limit}
-use Rattle.lists.proofs.Filled.{Stored, stored_none, store_next}
-use Rattle.lateness.specs.Inner.{lates_at}
+use Rattle.lists.proofs.Filled.{stored_none, store_next}
 use borrow.Author.Rules.{rules}
 use Rattle.lateness.proofs.bounds.lates_of.Goals as goal
 
@@ -35,7 +31,7 @@ pub late_at-late-requires : goal.late_at-late-requires
 late_at-late-requires c =
     let k = c.requires in
     let f = get_or c.args.firsts.now c.loop-i.i 0 in
-    ((k.reaches_long, k.fixed_long), (k.period c.loop-i.i, k.reach f, k.late f))
+    record { reaches_len = (k.reaches_long, k.fixed_long); period_le_period_limit = (k.period c.loop-i.i, k.reach f, k.late f) }
 
 pub offset_bounds-lates-i : goal.offset_bounds-lates-i
 offset_bounds-lates-i c = omega arith

@@ -1,16 +1,9 @@
 -- `lateness::bounds::lates_of` meets its contract: the bounds of the first i tasks are known.
-use native.Mathlib.Omega.{arith}
 use Prim.Native.Nat.{◌-◌}
-use mathlib.Core.Path.{refl, ◌∙◌}
 use lib.IntN.{pos}
-use lib.ListN.{get_or}
-use mir.Syntax.{w64}
-use mir.Val.{SFits}
-use mir.ValLaws.{to_z-of_z}
 use Rattle.units.specs.Limits.{tasks_limit}
-use Rattle.lists.proofs.Filled.{Stored, stored_none, store_next}
+use Rattle.lists.proofs.Filled.{Stored}
 use Rattle.lateness.specs.Inner.{lates_at}
-use borrow.Author.Rules.{rules}
 use Rattle.lateness.proofs.bounds.lates_of.Given as goal
 
 abbrev pub invariant-loop-i : goal.invariant-loop-i

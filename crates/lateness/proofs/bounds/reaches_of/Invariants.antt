@@ -1,10 +1,8 @@
 -- `lateness::bounds::reaches_of` meets its contract: the reaches of the first p cores are known.
-use native.Mathlib.Omega.{arith}
-use Prim.Native.Nat.{◌-◌, ◌≤◌, ◌<◌}
-use mathlib.Core.Path.{◌≡◌, ◌∙◌}
+use Prim.Native.Nat.{◌-◌, ◌≤◌}
+use mathlib.Core.Path.{◌≡◌}
 use Rattle.units.specs.Limits.{cores_limit}
-use Rattle.lateness.proofs.Modest.{movers_in_range, movers_reach}
-use Rattle.lateness.proofs.Reached.{reached, reached_long, reached_none, reached_next, reached_all, reached_le}
+use Rattle.lateness.proofs.Reached.{reached}
 use Rattle.lateness.proofs.bounds.reaches_of.Given as goal
 
 abbrev pub invariant-loop-p : goal.invariant-loop-p

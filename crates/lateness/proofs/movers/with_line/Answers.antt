@@ -1,9 +1,8 @@
 -- `lateness::movers::with_line` meets its contract: on each core that is passed the line stands where it is an upper mover.
-use Prim.Native.Nat.{ℕ, ◌-◌, ◌<◌}
+use Prim.Native.Nat.{ℕ, ◌<◌}
 use mathlib.Core.Path.{◌≡◌, sym, ap, ◌∙◌}
 use mathlib.Core.Bool.{true}
 use mathlib.Core.List.{List}
-use mathlib.Core.Logic.{⊎_elim}
 use native.Mathlib.Omega.{arith}
 use borrow.Author.Tests.{lt-ltb}
 use lib.ListN.{length}
@@ -14,8 +13,9 @@ use Rattle.lists.proofs.Filled.{stored_none}
 use Rattle.task_shares.specs.Movers.{upper}
 use Rattle.task_shares.proofs.Stands.{is_upper, upper_stands, found, but_upper}
 use Rattle.lateness.specs.Inner.{mover_on}
-use Rattle.lateness.proofs.Front.{Front, front_set, front_skip, as_mover}
+use Rattle.lateness.proofs.Front.{front_set, front_skip, as_mover}
 use borrow.Author.Rules.{rules}
+use Rattle.lateness.proofs.movers.with_line.Goals.{in-Upper, in_default}
 use Rattle.lateness.proofs.movers.with_line.Goals as goal
 
 pub loop-p-init : goal.loop-p-init
@@ -53,14 +53,14 @@ loop-p-preserved c =
     let moves = sym (lt-ltb 1 (parts row) c.requires.0) in
     let up = upper_stands p row ∙ ap is_upper (sym (how.ensures ∙ found a.line.shares p a.first true moves c.requires.1)) in
     let old = a.above in
-    ⊎_elim
-    (λ t.
-    rw t.3
-    (front_set (λ q. upper q row) (λ q. mover_on q a.line) old p at.movers at.invariant h _ (t.2.ensures ∙ on) (up ∙ ap is_upper t.1.given.1)))
-    (λ t.
-    rw t.1
-    (front_skip (λ q. upper q row) (λ q. mover_on q a.line) old p at.movers at.invariant h (up ∙ but_upper how.result t.0.keys2)))
-    c.in-Upper.branch
+    elim c.match-standing.branch [
+      | in-Upper w ↦
+          rw w.movers-is
+          (front_set (λ q. upper q row) (λ q. mover_on q a.line) old p at.movers at.invariant h _ (w.mover_on-mover.ensures ∙ on) (up ∙ ap is_upper w.in-Upper.is))
+      | in_default w ↦
+          rw w.movers-is
+          (front_skip (λ q. upper q row) (λ q. mover_on q a.line) old p at.movers at.invariant h (up ∙ but_upper how.result w.in_default.not-Upper))
+    ]
 
 pub returns : goal.returns
 returns c = λ q h. c.loop-p.invariant.done q (omega arith) (omega arith)

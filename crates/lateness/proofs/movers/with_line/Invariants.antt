@@ -1,21 +1,10 @@
 -- `lateness::movers::with_line` meets its contract: on each core that is passed the line stands where it is an upper mover.
-use Prim.Native.Nat.{ℕ, ◌-◌, ◌<◌}
-use mathlib.Core.Path.{◌≡◌, sym, ap, ◌∙◌}
-use mathlib.Core.Bool.{true}
-use mathlib.Core.List.{List}
-use mathlib.Core.Logic.{⊎_elim}
-use native.Mathlib.Omega.{arith}
-use borrow.Author.Tests.{lt-ltb}
-use lib.ListN.{length}
+use Prim.Native.Nat.{◌-◌}
 use Rattle.units.specs.Limits.{cores_limit}
 use Rattle.units.specs.Units.{nums}
-use Rattle.lists.specs.Lists.{parts}
-use Rattle.lists.proofs.Filled.{stored_none}
 use Rattle.task_shares.specs.Movers.{upper}
-use Rattle.task_shares.proofs.Stands.{is_upper, upper_stands, found, but_upper}
 use Rattle.lateness.specs.Inner.{mover_on}
-use Rattle.lateness.proofs.Front.{Front, front_set, front_skip, as_mover}
-use borrow.Author.Rules.{rules}
+use Rattle.lateness.proofs.Front.{Front}
 use Rattle.lateness.proofs.movers.with_line.Given as goal
 
 abbrev pub invariant-loop-p : goal.invariant-loop-p
