@@ -1,11 +1,8 @@
 -- `name_list::name_again` meets its contract.
-use Prim.Native.Nat.{◌-◌}
-use mathlib.Core.Path.{sym, ◌∙◌}
+use mathlib.Core.Path.{sym}
 use native.Mathlib.Omega.{arith}
-use lib.ListN.{length}
-use borrow.Author.Rules.{rules}
 use Rattle.name_list.proofs.Lines.{line_ahead}
-use Rattle.name_list.proofs.Compared.{Again, again_first, again_done, again_none, again_here, again_later}
+use Rattle.name_list.proofs.Compared.{again_first, again_done, again_none, again_here, again_later}
 use Rattle.name_list.proofs.name_again.Goals as goal
 
 pub loop-at-init : goal.loop-at-init
@@ -23,13 +20,13 @@ pub loop-at-preserved : goal.loop-at-preserved
 loop-at-preserved c =
     again_later _ _ _ _ c.loop-at.invariant c.loop-at-test.true c.name_end-next.ensures c.if-next-eq0.false
     c.requires
-    (sym c.read_word.ensures ∙ c.enum_told-1.given.1)
+    (sym c.in-NoWord.ensures)
 
 pub returns-in-After : goal.returns-in-After
 returns-in-After c =
     again_here _ _ _ _ c.loop-at.invariant c.loop-at-test.true c.name_end-next.ensures c.if-next-eq0.false
     c.requires
-    (sym c.read_word.ensures ∙ c.after-1.given.1)
+    (sym c.in-After.ensures)
 
 pub returns : goal.returns
 returns c = again_done _ _ _ _ c.loop-at.invariant c.loop-at-test.false

@@ -1,11 +1,8 @@
 -- `name_list::name_twice` meets its contract.
-use Prim.Native.Nat.{◌-◌}
 use mathlib.Core.Path.{sym, ◌∙◌}
 use native.Mathlib.Omega.{arith}
-use lib.ListN.{length}
-use borrow.Author.Rules.{rules}
 use Rattle.name_list.proofs.Lines.{line_ahead, line_ends}
-use Rattle.name_list.proofs.Compared.{line_whole, Twice, twice_first, twice_done, twice_none, twice_here, twice_later}
+use Rattle.name_list.proofs.Compared.{line_whole, twice_first, twice_done, twice_none, twice_here, twice_later}
 use Rattle.name_list.proofs.name_twice.Goals as goal
 
 pub loop-at-init : goal.loop-at-init
@@ -18,13 +15,11 @@ returns-then-next-eq0 c = twice_none _ _ c.loop-at.invariant c.loop-at-test.true
 pub slice_bounds-name_again-count : goal.slice_bounds-name_again-count
 slice_bounds-name_again-count c = omega (arith, line_ahead _ _ c.name_end-next.ensures c.if-next-eq0.false)
 
--- GONE slice-bounds-name-again-start
--- part_name_again_start : tie.Need-slice-bounds-name-again-start invariant-loop decreases-loop
--- part_name_again_start c = omega (arith, line_ahead _ _ c.before.name_end_lem.ensures c.if1.false)
+pub slice_bounds-name_again-start : goal.slice_bounds-name_again-start
+slice_bounds-name_again-start c = omega (arith, line_ahead _ _ c.name_end-next.ensures c.if-next-eq0.false)
 
--- GONE slice-bounds-name-again-end
--- part_name_again_end : tie.Need-slice-bounds-name-again-end invariant-loop decreases-loop
--- part_name_again_end c = line_ends _ _ c.before.name_end_lem.ensures c.if1.false
+pub slice_bounds-name_again-end : goal.slice_bounds-name_again-end
+slice_bounds-name_again-end c = line_ends _ _ c.name_end-next.ensures c.if-next-eq0.false
 
 pub name_again-requires : goal.name_again-requires
 name_again-requires c = line_whole _ _ c.name_end-next.ensures c.if-next-eq0.false

@@ -1,11 +1,7 @@
 -- `name_list::name_twice` meets its contract.
 use Prim.Native.Nat.{◌-◌}
-use mathlib.Core.Path.{sym, ◌∙◌}
-use native.Mathlib.Omega.{arith}
 use lib.ListN.{length}
-use borrow.Author.Rules.{rules}
-use Rattle.name_list.proofs.Lines.{line_ahead, line_ends}
-use Rattle.name_list.proofs.Compared.{line_whole, Twice, twice_first, twice_done, twice_none, twice_here, twice_later}
+use Rattle.name_list.proofs.Compared.{Twice}
 use Rattle.name_list.proofs.name_twice.Given as goal
 
 abbrev pub invariant-loop-at : goal.invariant-loop-at

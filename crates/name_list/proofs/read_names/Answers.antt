@@ -1,10 +1,7 @@
 -- `name_list::read_names` meets its contract.
-use Prim.Native.Nat.{◌-◌}
 use native.Mathlib.Omega.{arith}
-use lib.ListN.{length}
-use borrow.Author.Rules.{rules}
 use Rattle.name_list.proofs.Lines.{line_ahead}
-use Rattle.name_list.proofs.Tallied.{Tallied, ahead, none_yet, one_more, said_count, said_unreadable}
+use Rattle.name_list.proofs.Tallied.{ahead, none_yet, one_more, said_count, said_unreadable}
 use Rattle.name_list.proofs.read_names.Goals as goal
 
 pub loop-at-init : goal.loop-at-init
