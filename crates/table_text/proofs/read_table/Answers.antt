@@ -1,11 +1,14 @@
 -- `table_text::read_table` meets its contract.
 use Rattle.table_text.proofs.Says.{gives_line, gives_table, table_says, table_line}
-use borrow.Author.Rules.{rules}
 use Rattle.table_text.proofs.read_table.Goals as goal
 
 pub returns-then-line-eq0 : goal.returns-then-line-eq0
 returns-then-line-eq0 c =
-    gives_table _ _ _ _ _ (table_says _ _ _ c.first_unreadable-line.ensures c.if-line-eq0.true) c.store_tasks-count.ensures.value c.store_tasks-count.ensures.table_after
+    let n = c.store_tasks-count in
+    let w = gives_table c.args.cores n.result _ c.args.table.now n.new.table (table_says c.args.text.now c.args.cores _ c.first_unreadable-line.ensures c.if-line-eq0.true) n.ensures.value n.ensures.table_after in
+    record { value = w.0; table_after = w.1 }
 
 pub returns-else-line-eq0 : goal.returns-else-line-eq0
-returns-else-line-eq0 c = gives_line _ _ (table_line _ _ _ c.first_unreadable-line.ensures c.if-line-eq0.false)
+returns-else-line-eq0 c =
+    let w = gives_line _ c.args.table.now (table_line c.args.text.now c.args.cores _ c.first_unreadable-line.ensures c.if-line-eq0.false) in
+    record { value = w.0; table_after = w.1 }
