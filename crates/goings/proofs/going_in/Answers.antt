@@ -1,6 +1,5 @@
 -- `goings::going_in` meets its contract.
 use mathlib.Core.Path.{refl}
-use borrow.Author.Rules.{rules}
 use Rattle.goings.proofs.going_in.Goals as goal
 
 pub returns : goal.returns

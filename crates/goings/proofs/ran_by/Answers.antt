@@ -3,7 +3,7 @@ use Prim.Native.Nat.{◌+◌, ◌-◌, ◌*◌, ◌≤◌}
 use mathlib.Core.Path.{◌≡◌, refl, sym, ap, ◌∙◌}
 use native.Mathlib.Omega.{arith}
 use borrow.Author.Rules.{rules}
-use lib.ListN.{length, get_or}
+use lib.ListN.{get_or}
 use Rattle.units.specs.Limits.{tasks_limit, clock_limit}
 use Rattle.goings.specs.declared.Going.{Going}
 use Rattle.goings.specs.Going.{no_going, ran_by}

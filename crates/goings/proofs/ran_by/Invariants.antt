@@ -1,16 +1,10 @@
 -- `goings::ran_by` meets its contract.
-use Prim.Native.Nat.{◌+◌, ◌-◌, ◌*◌, ◌≤◌}
-use mathlib.Core.Path.{◌≡◌, refl, sym, ap, ◌∙◌}
-use mathlib.Core.Logic.{⊎_elim}
-use native.Mathlib.Omega.{arith}
-use borrow.Author.Rules.{rules}
-use lib.ListN.{length, get_or}
-use Rattle.units.specs.Limits.{tasks_limit, clock_limit}
-use Rattle.goings.specs.declared.Going.{Going}
-use Rattle.goings.specs.Going.{no_going, ran_by}
+use Prim.Native.Nat.{◌-◌, ◌≤◌}
+use mathlib.Core.Path.{◌≡◌}
+use lib.ListN.{length}
+use Rattle.units.specs.Limits.{tasks_limit}
+use Rattle.goings.specs.Going.{ran_by}
 use Rattle.goings.specs.Rows.{goings_in}
-use Rattle.goings.proofs.Ran.{ran_fits, ran_more, ran_same}
-use Rattle.goings.proofs.Rows.{goings_at}
 use Rattle.goings.proofs.ran_by.Given as goal
 
 abbrev pub invariant-loop-core : goal.invariant-loop-core
