@@ -1,6 +1,5 @@
 -- `core_choice::better_task` meets its contract.
 use Prim.Native.Nat.{ℕ}
-use borrow.Author.Tests.{not-true, not-false}
 use lib.Dec.{ltb, eqb}
 use mathlib.Core.Bool.{true, false, ◌||◌}
 use mathlib.Core.Path.{◌≡◌, sym, ◌∙◌}
@@ -9,7 +8,6 @@ use Rattle.task_state.specs.declared.State.{State}
 use Rattle.task_state.specs.Key.{waits, key_of}
 use Rattle.core_choice.specs.declared.Best.{Best}
 use Rattle.core_choice.specs.Choice.{better_task}
-use borrow.Author.Rules.{rules}
 use Rattle.core_choice.proofs.better_task.Goals.{Else-not-waits}
 use Rattle.core_choice.proofs.better_task.Goals as goal
 

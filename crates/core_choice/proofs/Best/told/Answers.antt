@@ -2,7 +2,6 @@
 use lib.ListN.{get_or}
 use Rattle.units.specs.Units.{ticks}
 use Rattle.core_choice.proofs.Numbers.{best_told}
-use borrow.Author.Rules.{rules}
 use Rattle.core_choice.proofs.Best.told.Goals as goal
 
 pub returns : goal.returns
