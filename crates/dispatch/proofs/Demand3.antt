@@ -17,7 +17,7 @@ use Rattle.turn.specs.Runs.{core_of_run}
 use Rattle.turn.proofs.Sent.{sent}
 use Rattle.turn.specs.Choice.{RunGoesTo}
 use Rattle.turn.proofs.Cycle.{place_after, counts_after}
-use Rattle.turn.proofs.Fair.{rounded, in_a_row, whole, fixed as all_to_one}
+use Rattle.turn.proofs.Fair.{rounded, in_a_row as row_near, whole, fixed as all_to_one}
 use Rattle.turn.proofs.SincePlan.{since_plan}
 use Rattle.task_state.specs.declared.State.{State}
 use Rattle.dispatch.specs.Record.{record_of, state_at}
@@ -126,7 +126,7 @@ module _ (pl : Plan) (g : Good (record_of pl)) (i : ℕ) (from : 0 < i) (to : i 
       -- of c in a row after the first a, x of them on core p, it has less than two more or less than its part
       of_any : (a c x : ℕ) → a + c ≤ length ks → sent_to p ks (a + c) ≡ sent_to p ks a + x → (x * w < s p * c + 2 * w) × (s p * c < x * w + 2 * w)
       of_any a c x h e =
-          in_a_row w ss lined.some lined.shares wide a c (p - 1) x
+          row_near w ss lined.some lined.shares wide a c (p - 1) x
           (sym (sent_is (a + c) h) ∙ e ∙ ap (λ (n : ℕ). n + x) (sent_is a (omega arith)))
 
       -- the same, counted

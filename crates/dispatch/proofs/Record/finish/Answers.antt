@@ -1,7 +1,6 @@
 -- `dispatch::Record::finish` meets its contract.
 use mathlib.Core.Path.{refl, ◌∙◌}
 use Rattle.dispatch.proofs.Answers.{finish_or_zero}
-use borrow.Author.Rules.{rules}
 use Rattle.dispatch.proofs.Record.finish.Goals as goal
 
 pub returns : goal.returns

@@ -1,7 +1,7 @@
 -- `dispatch::Record::finish_or` meets its contract.
 use Rattle.dispatch.proofs.Called.{TaskCall, task_call}
 use Rattle.dispatch.proofs.Answers.{finish_first, finish_or_refused, finish_or_taken}
-use Rattle.dispatch.specs.Refusals.{task_tests, finish_refusal}
+use Rattle.dispatch.specs.Refusals.{task_tests}
 use Rattle.arith.proofs.Signed.{pos_fits, sub_fits, sub_is}
 use native.Mathlib.Omega.{arith}
 use mir.Syntax.{w64}

@@ -4,7 +4,6 @@ use Rattle.dispatch.specs.declared.Record.{Record}
 use Rattle.planning.specs.declared.Planned.{Planned}
 use Rattle.units.specs.declared.refusal.Refusal.{Refusal}
 use mathlib.Core.Path.{ap, ap₂, ◌∙◌}
-use borrow.Author.Rules.{rules}
 use Rattle.dispatch.proofs.Record.fresh.Goals as goal
 
 pub returns : goal.returns

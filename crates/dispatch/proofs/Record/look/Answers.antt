@@ -1,6 +1,5 @@
 -- `dispatch::Record::look` meets its contract.
 use Rattle.dispatch.proofs.Answers.{look_or_idle}
-use borrow.Author.Rules.{rules}
 use Rattle.dispatch.proofs.Record.look.Goals as goal
 
 pub returns : goal.returns

@@ -8,8 +8,7 @@ use Rattle.dispatch.specs.Refusals.{look_refusal}
 use Rattle.units.specs.Limits.{tasks_limit}
 use native.Mathlib.Omega.{arith}
 use mathlib.Core.Path.{◌≡◌, refl, sym, ◌∙◌}
-use Prim.Native.Nat.{◌-◌, ◌≤◌}
-use borrow.Author.Rules.{rules}
+use Prim.Native.Nat.{◌≤◌}
 use Rattle.units.specs.Refusals.{core_no}
 use Rattle.call_tests.specs.Tests.{shared_tests}
 use Rattle.dispatch.specs.Sound.{sound_of}
@@ -61,7 +60,7 @@ pub overflow_add-i : goal.overflow_add-i
 overflow_add-i c = omega (arith, (known (goal.at.overflow_add-i c).Then-no-eq0).tasks)
 
 pub better_task-best-requires : goal.better_task-best-requires
-better_task-best-requires c = 
+better_task-best-requires c =
     let k = (known (goal.at.better_task-best-requires c).Then-no-eq0) in
     (k.from, k.few, k.due c.loop-i.i (omega arith), k.time)
 
@@ -84,8 +83,8 @@ returns-after-best-gt0 c =
     let e = found p.After-loop-i (known p.Then-no-eq0) in
     let chosen : c.if-best-gt0.chosen ≡ told_of (choice_of r s.core) =
     elim c.if-best-gt0.branch [
-      then-best-gt0 w ↦ w.chosen-is ∙ told_by r s.core e w.told.ensures
-    | else-best-gt0 w ↦ w.chosen-is ∙ told_idle r s.core e (omega (arith, w.if-best-gt0.false))
+      | then-best-gt0 w ↦ w.chosen-is ∙ told_by r s.core e w.told-chosen.ensures
+      | else-best-gt0 w ↦ w.chosen-is ∙ told_idle r s.core e (omega (arith, w.if-best-gt0.false))
     ] in
     sym (look_or_taken s.self s.core s.time.0 s.told (own s.self s.core s.time.0 c.sound-sound.ensures c.shared_tests-no.ensures) c.if-no-eq0.true chosen)
 

@@ -1,7 +1,6 @@
 -- `dispatch::Record::release` meets its contract.
 use mathlib.Core.Path.{◌∙◌}
 use Rattle.dispatch.proofs.Answers.{release_or_zeros}
-use borrow.Author.Rules.{rules}
 use Rattle.dispatch.proofs.Record.release.Goals as goal
 
 pub returns : goal.returns

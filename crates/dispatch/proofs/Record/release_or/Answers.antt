@@ -12,7 +12,6 @@ use Prim.Native.Nat.{ℕ, ◌-◌}
 use lib.ListN.{set}
 use native.Mathlib.Omega.{arith}
 use mathlib.Core.Path.{◌≡◌, sym, ◌∙◌}
-use borrow.Author.Rules.{rules}
 use Rattle.units.specs.Refusals.{task_no}
 use Rattle.call_tests.specs.Tests.{shared_tests}
 use Rattle.dispatch.specs.Sound.{sound_of}

@@ -5,11 +5,10 @@ use Rattle.soundness.specs.Plan.{plan_sound}
 use Rattle.lists.specs.Below.{all_below}
 use Rattle.lists.proofs.Tests.{by_cases}
 use Rattle.units.specs.Limits.{tasks_limit, clock_limit}
-use borrow.Author.Tests.{lt-leb, le-leb, not-true, not-false}
+use borrow.Author.Tests.{lt-leb, le-leb}
 use Prim.Native.Nat.{◌≤◌}
 use mathlib.Core.Bool.{Bool, true, false}
 use mathlib.Core.Path.{◌≡◌, sym, ◌∙◌}
-use borrow.Author.Rules.{rules}
 use Rattle.dispatch.proofs.Record.sound.Goals as goal
 
 -- each task in use is sound, the others are empty

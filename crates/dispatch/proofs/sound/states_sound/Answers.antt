@@ -1,14 +1,9 @@
 -- `dispatch::sound::states_sound` meets its contract.
-use borrow.Author.Rules.{rules}
-use borrow.Author.Tests.{not-true, not-false}
 use Rattle.dispatch.specs.Sound.{state_ok}
 use Rattle.lists.proofs.Below.{all_none, all_more, all_fails}
-use Rattle.lists.specs.Below.{all_below}
 use Rattle.units.specs.Limits.{tasks_limit}
 use native.Mathlib.Omega.{arith}
-use mathlib.Core.Bool.{true}
 use mathlib.Core.Path.{◌≡◌, sym, ◌∙◌}
-use Prim.Native.Nat.{◌-◌, ◌≤◌}
 use Rattle.dispatch.proofs.sound.states_sound.Goals as goal
 
 pub loop-i-init : goal.loop-i-init
