@@ -1,13 +1,12 @@
 -- What a sheet says, as the code meets it, and what the answer gives.
 use Prim.Native.Nat.{ℕ, zero, suc, ◌+◌, ◌-◌, ◌≤◌, ◌<◌}
-use mathlib.Core.Path.{◌≡◌, refl, sym, ap, ap₂, ◌∙◌}
+use mathlib.Core.Path.{◌≡◌, refl, ap, ap₂, ◌∙◌}
 use mathlib.Core.Bool.{Bool, true, false}
 use mathlib.Core.List.{List, [], ◌∷◌, ◌++◌, map}
-use native.Mathlib.Nat.{sub-zero}
 use native.Mathlib.Omega.{arith}
 use borrow.Author.Tests.{lt-ltb, le-ltb, ne_eqb, ltb-true, leb-true}
-use lib.Dec.{ltb, leb}
-use lib.ListN.{length, get_or, take, drop, length-append, length-drop}
+use lib.Dec.{ltb}
+use lib.ListN.{length, take, drop, length-append, length-drop}
 use lib.Seq.{sets, take_at}
 use Rattle.lists.proofs.Tests.{and_left, and_right}
 use Rattle.units.specs.Refusals.{sheet_no, name_no, tick_no}

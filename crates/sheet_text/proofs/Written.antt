@@ -10,12 +10,10 @@ use borrow.Author.Tests.{ltb-true, ltb-false}
 use Rattle.lists.proofs.Tests.{by_cases}
 use Rattle.writing.specs.Ascii.{newline}
 use Rattle.writing.specs.Decimal.{decimal_of}
-use Rattle.scanning.specs.Line.{pair_by}
 use Rattle.scanning.specs.Lines.{pair_end}
-use Rattle.scanning.proofs.Fields.{no_value}
 use Rattle.scanning.proofs.Sought.{Sought, first, later, here, ended}
 use Rattle.scanning.proofs.WrittenLines.{field_written, field_read, pair_by_written, pair_by_read}
-use Rattle.scanning.specs.declared.number.Number.TheVariants.{Value, NoNumber}
+use Rattle.scanning.specs.declared.number.Number.TheVariants.{Value}
 use Rattle.scanning.specs.declared.line.Pair.{Pair}
 use Rattle.scanning.specs.declared.line.Pair.TheVariants.{Two, NoPair}
 use Rattle.names.specs.Name.{name_at, name_end}

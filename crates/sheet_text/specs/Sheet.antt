@@ -1,5 +1,5 @@
 -- What a sheet says, document 02, R-1: a tick length and jobs; or it is refused by 19, then 17, then 18.
-use Rattle.std.specs.Prelude.{ℕ, ◌*◌, cond, List, [], ltb, eqb, length}
+use Rattle.std.specs.Prelude.{ℕ, cond, List, [], ltb, eqb, length}
 use Rattle.units.specs.Refusals.{sheet_no, name_no, tick_no}
 use Rattle.writing.specs.Ascii.{newline}
 use Rattle.scanning.specs.Line.{field_at}

@@ -1,12 +1,8 @@
 -- `sheet_text::job::first_unreadable` meets its contract.
-use borrow.Author.Rules.{rules}
-use Prim.Native.Nat.{◌+◌, ◌-◌}
-use mathlib.Core.Path.{sym, ◌∙◌, ap}
-use lib.ListN.{length}
+use mathlib.Core.Path.{sym, ap}
 use native.Mathlib.Omega.{arith}
 use Rattle.scanning.specs.Lines.{pair_end}
-use Rattle.scanning.proofs.Sought.{Sought, first, later, here, ended}
-use Rattle.sheet_text.specs.Job.{job_end}
+use Rattle.scanning.proofs.Sought.{first, later, here, ended}
 use Rattle.sheet_text.proofs.Jobs.{job_kept}
 use Rattle.sheet_text.proofs.job.first_unreadable.Goals as goal
 
@@ -17,12 +13,12 @@ pub returns-in-NoPair : goal.returns-in-NoPair
 unfolding pair_end
 returns-in-NoPair c =
     let l = c.loop-at in
-    sym (here _ _ _ _ _ _ l.invariant c.loop-at-test.true (ap pair_end (sym c.read_job.ensures ∙ c.enum_told-1.given.1)))
+    sym (here _ _ _ _ _ _ l.invariant c.loop-at-test.true (ap pair_end (sym c.in-NoPair.ensures)))
 
 pub loop-at-preserved : goal.loop-at-preserved
 unfolding pair_end
 loop-at-preserved c =
-    let e = sym c.read_job.ensures ∙ c.c-1.given.1 in
+    let e = sym c.in-Two.ensures in
     later _ _ _ _ _ _ c.loop-at.invariant c.loop-at-test.true (ap pair_end e) (omega (arith, (job_kept _ _ _ _ _ e).further))
 
 pub returns : goal.returns

@@ -1,13 +1,8 @@
 -- `sheet_text::job::first_unreadable` meets its contract.
-use borrow.Author.Rules.{rules}
 use Prim.Native.Nat.{◌+◌, ◌-◌}
-use mathlib.Core.Path.{sym, ◌∙◌, ap}
 use lib.ListN.{length}
-use native.Mathlib.Omega.{arith}
-use Rattle.scanning.specs.Lines.{pair_end}
-use Rattle.scanning.proofs.Sought.{Sought, first, later, here, ended}
+use Rattle.scanning.proofs.Sought.{Sought}
 use Rattle.sheet_text.specs.Job.{job_end}
-use Rattle.sheet_text.proofs.Jobs.{job_kept}
 use Rattle.sheet_text.proofs.job.first_unreadable.Given as goal
 
 abbrev pub invariant-loop-at : goal.invariant-loop-at

@@ -1,7 +1,6 @@
 -- `sheet_text::job::put_name` meets its contract.
 use mathlib.Core.Path.{refl, sym, ◌∙◌}
 use native.Mathlib.Omega.{arith}
-use borrow.Author.Rules.{rules}
 use Rattle.names.proofs.Parts.{parted}
 use Rattle.writing.proofs.Wrote.{none, recast}
 use Rattle.sheet_text.proofs.Naming.{line_none, line_stored}
@@ -13,13 +12,11 @@ returns-then-next-eq0 c = recast (line_none _ _ (sym c.name_end-next.ensures ∙
 pub slice_bounds-put_text-count : goal.slice_bounds-put_text-count
 slice_bounds-put_text-count c = (parted _ _ _ _ (omega arith) c.name_end-next.ensures c.if-next-eq0.false).from
 
--- GONE slice-bounds-put-text-start
--- part_put_text_start : tie.Need-slice-bounds-put-text-start
--- part_put_text_start c = (parted _ _ _ _ (omega arith) c.before.before.name_end_lem.ensures c.before.if1.false).from
+pub slice_bounds-put_text-start : goal.slice_bounds-put_text-start
+slice_bounds-put_text-start c = (parted _ _ _ _ (omega arith) c.name_end-next.ensures c.if-next-eq0.false).from
 
--- GONE slice-bounds-put-text-end
--- part_put_text_end : tie.Need-slice-bounds-put-text-end
--- part_put_text_end c = (parted _ _ _ _ (omega arith) c.before.before.name_end_lem.ensures c.before.if1.false).to
+pub slice_bounds-put_text-end : goal.slice_bounds-put_text-end
+slice_bounds-put_text-end c = (parted _ _ _ _ (omega arith) c.name_end-next.ensures c.if-next-eq0.false).to
 
 pub put_text-stored-requires : goal.put_text-stored-requires
 put_text-stored-requires c =

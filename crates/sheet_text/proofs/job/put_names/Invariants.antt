@@ -1,12 +1,7 @@
 -- `sheet_text::job::put_names` meets its contract.
 use Prim.Native.Nat.{◌-◌}
-use mathlib.Core.Path.{sym, ◌∙◌}
-use native.Mathlib.Omega.{arith}
-use borrow.Author.Rules.{rules}
 use lib.ListN.{length}
-use Rattle.writing.proofs.Wrote.{kept}
-use Rattle.sheet_text.proofs.Jobs.{job_kept}
-use Rattle.sheet_text.proofs.Naming.{Naming, begun, onward, ended, stopped}
+use Rattle.sheet_text.proofs.Naming.{Naming}
 use Rattle.sheet_text.proofs.job.put_names.Given as goal
 
 abbrev pub invariant-loop-at : goal.invariant-loop-at

@@ -1,6 +1,5 @@
 -- `sheet_text::job::read_job` meets its contract.
 use mathlib.Core.Path.{sym, ◌∙◌}
-use borrow.Author.Rules.{rules}
 use Rattle.sheet_text.proofs.Jobs.{job_none, job_is}
 use Rattle.sheet_text.proofs.job.read_job.Goals as goal
 

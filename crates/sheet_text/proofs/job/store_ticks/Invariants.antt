@@ -1,9 +1,7 @@
 -- `sheet_text::job::store_ticks` meets its contract.
-use borrow.Author.Rules.{rules}
 use Prim.Native.Nat.{◌-◌}
-use mathlib.Core.Path.{sym, ◌∙◌}
 use lib.ListN.{length}
-use Rattle.sheet_text.proofs.Stored.{Stored, start, more, ended, stopped}
+use Rattle.sheet_text.proofs.Stored.{Stored}
 use Rattle.sheet_text.proofs.job.store_ticks.Given as goal
 
 abbrev pub invariant-loop-at : goal.invariant-loop-at
