@@ -1,15 +1,13 @@
 -- `listing::listed::list` meets its contract.
 use mathlib.Core.Path.{sym, ◌∙◌}
-use borrow.Author.Tests.{not-true, not-false}
 use Rattle.dispatch.proofs.SoundFacts.{sound_facts}
 use Rattle.listing.proofs.Answers.{unsound, sound}
-use borrow.Author.Rules.{rules}
 use Rattle.listing.proofs.listed.list.Goals as goal
 
 pub returns-then-not-sound : goal.returns-then-not-sound
 returns-then-not-sound c =
     let a = unsound c.args.from c.args.buf.now (sym c.sound.ensures ∙ c.if-not-sound.true) in
-    (c.unlisted.ensures ∙ a.0, a.1)
+    record { value = c.unlisted.ensures ∙ a.0; buf_after = a.1 }
 
 pub list_plan-requires : goal.list_plan-requires
 list_plan-requires c =
@@ -17,5 +15,5 @@ list_plan-requires c =
 
 pub returns : goal.returns
 returns c =
-    sound c.args.from c.args.buf.now (sym c.sound.ensures ∙ c.if-not-sound.false)
-    c.list_plan.ensures.value c.list_plan.ensures.buf_after
+    let a = sound c.args.from c.args.buf.now (sym c.sound.ensures ∙ c.if-not-sound.false) c.list_plan.ensures.value c.list_plan.ensures.buf_after in
+    record { value = a.0; buf_after = a.1 }

@@ -1,7 +1,7 @@
 -- `listing::listed::list_plan` meets its contract.
-use mathlib.Core.Path.{◌≡◌, sym, ◌∙◌}
+use mathlib.Core.Path.{◌≡◌, ◌∙◌}
 use native.Mathlib.Omega.{arith}
-use lib.ListN.{length, length-map}
+use lib.ListN.{length}
 use Rattle.units.specs.Limits.{tasks_limit}
 use Rattle.soundness.proofs.Facts.{tasks_few}
 use Rattle.planning.specs.Shape.{PlanShaped}
@@ -17,8 +17,8 @@ use Rattle.listing.proofs.listed.list_plan.Goals as goal
 shaped : (s : Start) → PlanShaped s.args.plan
 shaped s =
     let pl = s.args.plan in
-    let l : length pl.lines ≡ tasks_limit = sym (length-map pl.lines _) ∙ s.well-formed.0.1.1.1.1.1.0.1.0.1 in
-    record { lines = l; shares = λ i h. wide pl.lines _ s.well-formed.0.1.1.1.1.1.0.1.1 i (omega (arith, l)) }
+    let l : length pl.lines ≡ tasks_limit = search rules in
+    record { lines = l; shares = λ i h. wide pl.lines _ s.well_formed.0.1.1.1.1.1.0.1.1 i (omega (arith, l)) }
 
 pub bounds_of-lates-requires : goal.bounds_of-lates-requires
 bounds_of-lates-requires c = sound_kept c.args.plan (shaped (goal.at.bounds_of-lates-requires c).Start) c.requires
@@ -30,7 +30,8 @@ put_plan-length-requires c =
 pub returns-then-buf-ge-LISTING : goal.returns-then-buf-ge-LISTING
 returns-then-buf-ge-LISTING c =
     let w = c.put_plan-length.ensures.wrote in
-    written c.args.plan w w.end (omega (arith, w.end, c.if-buf-ge-LISTING.true, listing_length c.args.plan (shaped (goal.at.returns-then-buf-ge-LISTING c).Start) c.requires))
+    let a = written c.args.plan w w.end (omega (arith, w.end, c.if-buf-ge-LISTING.true, listing_length c.args.plan (shaped (goal.at.returns-then-buf-ge-LISTING c).Start) c.requires)) in
+    record { value = a.0; buf_after = a.1 }
 
 pub put_plan-need-requires : goal.put_plan-need-requires
 put_plan-need-requires c =
@@ -39,7 +40,7 @@ put_plan-need-requires c =
 pub returns-then-buf-need : goal.returns-then-buf-need
 returns-then-buf-need c =
     let a = too_long c.args.plan c.args.buf.now c.put_plan-need.ensures.wrote.end c.if-buf-need.true in
-    (c.unlisted.ensures ∙ a.0, a.1)
+    record { value = c.unlisted.ensures ∙ a.0; buf_after = a.1 }
 
 pub put_plan-requires : goal.put_plan-requires
 put_plan-requires c =
@@ -47,4 +48,5 @@ put_plan-requires c =
 
 pub returns : goal.returns
 returns c =
-    written c.args.plan c.put_plan.ensures.wrote c.put_plan-need.ensures.wrote.end c.if-buf-need.false
+    let a = written c.args.plan c.put_plan.ensures.wrote c.put_plan-need.ensures.wrote.end c.if-buf-need.false in
+    record { value = a.0; buf_after = a.1 }

@@ -1,8 +1,6 @@
 -- `listing::writers::put_first` meets its contract.
 use Rattle.writing.proofs.Wrote.{then}
-use borrow.Author.Rules.{rules}
 use Rattle.listing.proofs.writers.put_first.Goals as goal
 
-pub returns : goal.returns
-returns c =
-    (then (then c.put_field-a.ensures.wrote c.put_field-b.ensures.wrote) c.put_byte.ensures, search rules)
+pub returns-clause-wrote : goal.returns-clause-wrote
+returns-clause-wrote c = then (then c.put_field-a.ensures.wrote c.put_field-b.ensures.wrote) c.put_byte.ensures

@@ -8,14 +8,10 @@ use Rattle.writing.specs.Decimal.{signed_of}
 use Rattle.writing.proofs.Wrote.{then, recast}
 use Rattle.writing.specs.Field.{line_end}
 use Rattle.listing.specs.Listing.{late_text}
-use borrow.Author.Rules.{rules}
 use Rattle.listing.proofs.writers.put_late.Goals as goal
 
-pub returns : goal.returns
+pub returns-clause-wrote : goal.returns-clause-wrote
 unfolding late_text
-returns c =
-    (
-      recast (ap (λ z. ascii " late " ++ signed_of z ++ line_end) (to_z-of_z w64 c.args.late c.ranges.late))
-          (then (then c.put_text-a.ensures c.put_signed-b.ensures.wrote) c.put_byte.ensures),
-      search rules,
-    )
+returns-clause-wrote c =
+    recast (ap (λ z. ascii " late " ++ signed_of z ++ line_end) (to_z-of_z w64 c.args.late c.ranges.late))
+    (then (then c.put_text-a.ensures c.put_signed-b.ensures.wrote) c.put_byte.ensures)

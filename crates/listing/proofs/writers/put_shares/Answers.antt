@@ -1,19 +1,17 @@
 -- `listing::writers::put_shares` meets its contract: the shares of the first p cores are written, and so many parts are left.
-use Prim.Native.Nat.{ℕ, ◌+◌, ◌*◌, ◌-◌, ◌≤◌, ◌<◌}
+use Prim.Native.Nat.{ℕ, ◌<◌}
 use native.Mathlib.Omega.{arith}
 use mathlib.Core.Path.{◌≡◌, sym, ap, ◌∙◌}
-use mathlib.Core.Logic.{⊎_elim}
 use lib.ListN.{length, take, drop, length-map}
 use Rattle.units.specs.Limits.{cores_limit}
 use Rattle.units.specs.declared.share.Share.{Share}
 use Rattle.units.specs.Units.{nums}
 use Rattle.lists.specs.Lists.{parts as parts_of}
-use Rattle.writing.specs.Wrote.{Wrote}
 use Rattle.writing.proofs.Wrote.{then, recast, none}
 use Rattle.listing.specs.Listing.{shares_text}
 use Rattle.listing.proofs.Texts.{first_text_lem, first_left, first_in, cores_more, shares_done, part_there, part_less, part_same}
 use borrow.Author.Rules.{rules}
-use Rattle.listing.proofs.writers.put_shares.Goals.{In-loop-left}
+use Rattle.listing.proofs.writers.put_shares.Goals.{In-loop-left, then-s-gt0, else-s-gt0}
 use Rattle.listing.proofs.writers.put_shares.Goals as goal
 
 -- a part that is left stands on a core
@@ -64,13 +62,13 @@ loop-left-preserved c =
     let h = there (goal.at.loop-left-preserved c).In-loop-left in
     let k : l.p < length ss = omega (arith, n, h) in
     let w = recast (cores_more ss l.p) (then l.invariant.2 c.put_share-next.ensures.wrote) in
-    ⊎_elim
-    (λ t. (omega (arith, h), omega (arith, t.1, l.invariant.1, part_less ss l.p k t.0.taken), w, search rules, c.put_share-next.auto.0 ∙ l.invariant.4))
-    (λ t. (omega (arith, h), omega (arith, t.1, l.invariant.1, part_same ss l.p k t.0.left), w, search rules, c.put_share-next.auto.0 ∙ l.invariant.4))
-    c.if-s-gt0.branch
+    elim c.if-s-gt0.branch [
+      | then-s-gt0 t ↦ (omega (arith, h), omega (arith, t.left-is, l.invariant.1, part_less ss l.p k t.if-s-gt0.true), w, search rules, c.put_share-next.auto.buf ∙ l.invariant.4)
+      | else-s-gt0 t ↦ (omega (arith, h), omega (arith, t.left-is, l.invariant.1, part_same ss l.p k t.if-s-gt0.false), w, search rules, c.put_share-next.auto.buf ∙ l.invariant.4)
+    ]
 
-pub returns : goal.returns
-returns c =
+pub returns-clause-wrote : goal.returns-clause-wrote
+returns-clause-wrote c =
     let l = c.loop-left in
     let ss = c.args.shares in
-    (recast (shares_done ss l.p (omega (arith, l.invariant.1, c.loop-left-test.false))) l.invariant.2, search rules)
+    recast (shares_done ss l.p (omega (arith, l.invariant.1, c.loop-left-test.false))) l.invariant.2

@@ -1,18 +1,12 @@
 -- `listing::writers::put_shares` meets its contract: the shares of the first p cores are written, and so many parts are left.
-use Prim.Native.Nat.{ℕ, ◌+◌, ◌*◌, ◌-◌, ◌≤◌, ◌<◌}
-use native.Mathlib.Omega.{arith}
-use mathlib.Core.Path.{◌≡◌, sym, ap, ◌∙◌}
-use mathlib.Core.Logic.{⊎_elim}
-use lib.ListN.{length, take, drop, length-map}
+use Prim.Native.Nat.{◌+◌, ◌*◌, ◌-◌, ◌≤◌}
+use mathlib.Core.Path.{◌≡◌}
+use lib.ListN.{length, take, drop}
 use Rattle.units.specs.Limits.{cores_limit}
-use Rattle.units.specs.declared.share.Share.{Share}
 use Rattle.units.specs.Units.{nums}
 use Rattle.lists.specs.Lists.{parts as parts_of}
 use Rattle.writing.specs.Wrote.{Wrote}
-use Rattle.writing.proofs.Wrote.{then, recast, none}
 use Rattle.listing.specs.Listing.{shares_text}
-use Rattle.listing.proofs.Texts.{first_text_lem, first_left, first_in, cores_more, shares_done, part_there, part_less, part_same}
-use borrow.Author.Rules.{rules}
 use Rattle.listing.proofs.writers.put_shares.Given as goal
 
 abbrev pub invariant-loop-left : goal.invariant-loop-left
