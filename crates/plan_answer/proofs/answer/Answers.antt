@@ -6,21 +6,19 @@ use Rattle.table_text.proofs.Answered.{is_unreadable, is_few, is_read}
 use borrow.Author.Rules.{rules}
 use Rattle.plan_answer.proofs.answer.Goals as goal
 
--- GONE slice-bounds-put-table-end
--- part_put_table_end : tie.Need-slice-bounds-put-table-end
--- part_put_table_end c =
---     let k = c.before.before.before in
---     let q = k.before.before.before in
---     omega (arith, is_few _ q.read_text_lem.ensures.0 k.cores.given.1)
+pub slice_bounds-put_table-end : goal.slice_bounds-put_table-end
+slice_bounds-put_table-end c = omega (arith, is_few _ c.read_text.ensures.value c.in-Read.is)
 
 pub returns-in-Unreadable : goal.returns-in-Unreadable
 returns-in-Unreadable c =
-    (recast (text_unreadable _ _ (is_unreadable _ c.read_text.ensures.value c.line-1.given.1)) c.put_refusal.ensures.wrote, search rules)
+    record {
+      wrote = recast (text_unreadable _ _ (is_unreadable _ c.read_text.ensures.value c.in-Unreadable.is)) c.put_refusal.ensures.wrote;
+      upper_bound = search rules;
+    }
 
 pub returns-in-Read : goal.returns-in-Read
 returns-in-Read c =
-    (
-      recast (text_read _ _ (is_read _ c.read_text.ensures.value c.cores-1.given.1 _ (search rules) c.read_text.ensures.table_after))
-          c.put_table.ensures.wrote,
-      search rules,
-    )
+    record {
+      wrote = recast (text_read _ _ (is_read _ c.read_text.ensures.value c.in-Read.is _ (search rules) c.read_text.ensures.table_after)) c.put_table.ensures.wrote;
+      upper_bound = search rules;
+    }
