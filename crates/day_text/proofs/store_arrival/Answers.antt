@@ -1,6 +1,5 @@
 -- `day_text::store_arrival` meets its contract.
 use Rattle.day_text.proofs.Kept.{three}
-use borrow.Author.Rules.{rules}
 use Rattle.day_text.proofs.store_arrival.Goals as goal
 
 pub returns : goal.returns

@@ -1,9 +1,7 @@
 -- `day_text::store_arrivals` meets its contract.
-use Prim.Native.Nat.{◌-◌}
-use mathlib.Core.Path.{sym, ◌∙◌}
+use mathlib.Core.Path.{sym}
 use Rattle.day_text.specs.Input.{lines_limit}
-use Rattle.day_text.proofs.Kept.{Kept, start, more, ended, full}
-use borrow.Author.Rules.{rules}
+use Rattle.day_text.proofs.Kept.{start, more, ended, full}
 use Rattle.day_text.proofs.store_arrivals.Goals as goal
 
 pub loop-i-init : goal.loop-i-init
@@ -11,13 +9,15 @@ loop-i-init c = start lines_limit _ _ _
 
 pub returns-in-NoArrival : goal.returns-in-NoArrival
 returns-in-NoArrival c =
-    ended lines_limit _ _ _ _ _ c.loop-i.invariant (sym c.read_arrival.ensures ∙ c.enum_told-1.given.1)
+    let w = ended lines_limit _ _ _ _ _ c.loop-i.invariant (sym c.in-NoArrival.ensures) in
+    record { numbers_value = w.0; arrivals_after = w.1 }
 
 pub loop-i-preserved : goal.loop-i-preserved
 loop-i-preserved c =
-    let g = c.time-1.given in
-    more lines_limit _ _ _ _ _ c.loop-i.invariant g.0.0 g.0.1.0 g.0.1.1.0 c.loop-i-test.true
-    (sym c.read_arrival.ensures ∙ g.1) c.store_arrival.ensures
+    let a = c.in-Arrived in
+    more lines_limit _ _ _ _ _ c.loop-i.invariant a.time a.task a.length c.loop-i-test.true (sym a.ensures) c.store_arrival.ensures
 
 pub returns : goal.returns
-returns c = full lines_limit _ _ _ _ _ c.loop-i.invariant c.loop-i-test.false
+returns c =
+    let w = full lines_limit _ _ _ _ _ c.loop-i.invariant c.loop-i-test.false in
+    record { numbers_value = w.0; arrivals_after = w.1 }

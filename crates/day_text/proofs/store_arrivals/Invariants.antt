@@ -1,9 +1,7 @@
 -- `day_text::store_arrivals` meets its contract.
 use Prim.Native.Nat.{◌-◌}
-use mathlib.Core.Path.{sym, ◌∙◌}
 use Rattle.day_text.specs.Input.{lines_limit}
-use Rattle.day_text.proofs.Kept.{Kept, start, more, ended, full}
-use borrow.Author.Rules.{rules}
+use Rattle.day_text.proofs.Kept.{Kept}
 use Rattle.day_text.proofs.store_arrivals.Given as goal
 
 abbrev pub invariant-loop-i : goal.invariant-loop-i

@@ -1,14 +1,13 @@
 -- `day_text::line::read_arrival` meets its contract.
 use mathlib.Core.Path.{sym, ap, ◌∙◌}
 use Rattle.day_text.specs.Line.{from_time, arrival_line}
-use borrow.Author.Rules.{rules}
 use Rattle.day_text.proofs.line.read_arrival.Goals as goal
 
 pub returns-in-NoNumber : goal.returns-in-NoNumber
 unfolding from_time arrival_line
-returns-in-NoNumber c = sym (ap (from_time _) (sym c.read_field.ensures ∙ c.enum_told-1.given.1))
+returns-in-NoNumber c = sym (ap (from_time _) (sym c.in-NoNumber.ensures))
 
 pub returns-in-Value : goal.returns-in-Value
 unfolding from_time arrival_line
 returns-in-Value c =
-    c.read_rest.ensures ∙ sym (ap (from_time _) (sym c.read_field.ensures ∙ c.time-1.given.1))
+    c.read_rest.ensures ∙ sym (ap (from_time _) (sym c.in-Value.ensures))

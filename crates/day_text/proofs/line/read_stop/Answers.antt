@@ -1,14 +1,13 @@
 -- `day_text::line::read_stop` meets its contract.
 use mathlib.Core.Path.{sym, ap, ◌∙◌}
 use Rattle.day_text.specs.Line.{stop_after, stop_line}
-use borrow.Author.Rules.{rules}
 use Rattle.day_text.proofs.line.read_stop.Goals as goal
 
 pub returns-in-NoWord : goal.returns-in-NoWord
 unfolding stop_after stop_line
-returns-in-NoWord c = sym (ap (stop_after _) (sym c.read_word.ensures ∙ c.enum_told-1.given.1))
+returns-in-NoWord c = sym (ap (stop_after _) (sym c.in-NoWord.ensures))
 
 pub returns-in-After : goal.returns-in-After
 unfolding stop_after stop_line
 returns-in-After c =
-    c.read_field.ensures ∙ sym (ap (stop_after _) (sym c.read_word.ensures ∙ c.next-1.given.1))
+    c.read_field.ensures ∙ sym (ap (stop_after _) (sym c.in-After.ensures))

@@ -1,17 +1,15 @@
 -- `day_text::line::stop_here` meets its contract.
 use mathlib.Core.Path.{sym, ◌∙◌}
-use borrow.Author.Tests.{not-true, not-false}
 use Rattle.day_text.proofs.Places.{no_start, not_here, is_here}
-use borrow.Author.Rules.{rules}
 use Rattle.day_text.proofs.line.stop_here.Goals as goal
 
 pub returns-then-not-line_starts : goal.returns-then-not-line_starts
-returns-then-not-line_starts c = no_start _ _ (sym c.line_starts.ensures ∙ not-true _ c.if-not-line_starts.true)
+returns-then-not-line_starts c = no_start _ _ (sym c.line_starts.ensures ∙ c.if-not-line_starts.true)
 
 pub returns-in-NoNumber : goal.returns-in-NoNumber
 returns-in-NoNumber c =
-    not_here _ _ (sym c.line_starts.ensures ∙ not-false _ c.if-not-line_starts.false) (sym c.read_stop.ensures ∙ c.enum_told-1.given.1)
+    not_here _ _ (sym c.line_starts.ensures ∙ c.if-not-line_starts.false) (sym c.in-NoNumber.ensures)
 
 pub returns-in-Value : goal.returns-in-Value
 returns-in-Value c =
-    is_here _ _ (sym c.line_starts.ensures ∙ not-false _ c.if-not-line_starts.false) (sym c.read_stop.ensures ∙ c.stop-1.given.1)
+    is_here _ _ (sym c.line_starts.ensures ∙ c.if-not-line_starts.false) (sym c.in-Value.ensures)

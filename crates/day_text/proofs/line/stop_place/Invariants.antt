@@ -1,9 +1,7 @@
 -- `day_text::line::stop_place` meets its contract.
 use Prim.Native.Nat.{◌-◌}
-use mathlib.Core.Path.{sym, ◌∙◌}
 use lib.ListN.{length}
-use Rattle.day_text.proofs.Places.{Seeking, first, found, passed, none}
-use borrow.Author.Rules.{rules}
+use Rattle.day_text.proofs.Places.{Seeking}
 use Rattle.day_text.proofs.line.stop_place.Given as goal
 
 abbrev pub invariant-loop-at : goal.invariant-loop-at
