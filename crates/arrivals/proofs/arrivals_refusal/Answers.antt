@@ -1,10 +1,9 @@
 -- `arrivals::arrivals_refusal` meets its contract.
-use Prim.Native.Nat.{◌-◌}
-use mathlib.Core.Path.{◌≡◌, refl, sym, ◌∙◌}
+use mathlib.Core.Path.{◌≡◌, refl, ◌∙◌}
 use lib.ListN.{length}
 use Rattle.units.specs.Limits.{tasks_limit}
 use Rattle.arrivals.specs.Arrivals.{arrival_cost}
-use Rattle.arrivals.proofs.Tried.{Tried, start, cost_read, cost_none, tests_are, more, refused, all}
+use Rattle.arrivals.proofs.Tried.{start, cost_read, cost_none, tests_are, more, refused, all}
 use borrow.Author.Rules.{rules}
 use Rattle.arrivals.proofs.arrivals_refusal.Goals.{Joined-i-lt-TASKS, then-i-lt-TASKS, else-i-lt-TASKS}
 use Rattle.arrivals.proofs.arrivals_refusal.Goals as goal
