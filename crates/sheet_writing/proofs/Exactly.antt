@@ -1,5 +1,5 @@
 -- Every table has one of the answers; so what is answered is what the words of document 02 give, and nothing else.
-use Prim.Native.Nat.{ℕ, ◌*◌, ◌/◌, ◌≤◌, ◌<◌}
+use Prim.Native.Nat.{ℕ, ◌/◌, ◌≤◌, ◌<◌}
 use mathlib.Core.Path.{◌≡◌, refl, sym, ap, ◌∙◌}
 use mathlib.Core.Bool.{true, false}
 use mathlib.Core.Logic.{◌↔◌}
@@ -11,7 +11,7 @@ use borrow.Author.Tests.{lt-ltb, le-leb, lt-leb, eq-eqb, ne_eqb, leb-true, leb-f
 use Rattle.lists.specs.Lists.{bit}
 use Rattle.lists.proofs.Tests.{by_cases, and_true}
 use Rattle.units.specs.declared.refusal.Refusal.{Refusal}
-use Rattle.units.specs.Refusals.{refusal, taken}
+use Rattle.units.specs.Refusals.{refusal}
 use Rattle.admission.specs.Admission.{plan_refusal}
 use Rattle.admission.proofs.Exactly.{answers}
 use Rattle.name_list.specs.Names.{twice, names_of, bad_name, names_said}

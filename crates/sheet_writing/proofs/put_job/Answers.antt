@@ -3,7 +3,6 @@ use Prim.Native.Nat.{◌*◌, ◌<◌}
 use native.Mathlib.Omega.{arith}
 use Rattle.writing.proofs.Wrote.{then}
 use Rattle.sheet_writing.proofs.Sheet.{product_fits}
-use borrow.Author.Rules.{rules}
 use Rattle.sheet_writing.proofs.put_job.Goals.{Start}
 use Rattle.sheet_writing.proofs.put_job.Goals as goal
 

@@ -1,15 +1,12 @@
 -- `sheet_writing::put_sheet` meets its contract.
-use Prim.Native.Nat.{ℕ, ◌+◌, ◌*◌, ◌-◌, ◌≤◌}
+use Prim.Native.Nat.{◌+◌, ◌*◌, ◌≤◌}
 use mathlib.Core.Path.{◌∙◌}
-use mathlib.Core.List.{List}
 use native.Mathlib.Omega.{arith}
-use borrow.Author.Rules.{rules}
-use lib.ListN.{length}
 use Rattle.units.specs.Limits.{tasks_limit}
 use Rattle.writing.proofs.Wrote.{kept}
 use Rattle.writing.specs.Ascii.{newline}
 use Rattle.names.proofs.Parts.{Parted, parted}
-use Rattle.sheet_writing.proofs.Sheet.{Writing, begun, whole_sheet, onward, ended, stopped}
+use Rattle.sheet_writing.proofs.Sheet.{begun, whole_sheet, onward, ended, stopped}
 use Rattle.sheet_writing.proofs.put_sheet.Goals.{At-loop-i, Else-next-eq0}
 use Rattle.sheet_writing.proofs.put_sheet.Goals as goal
 
@@ -18,12 +15,8 @@ known : (c : At-loop-i) → (c.loop-i.i ≤ 2 * tasks_limit) × (c.loop-i.end �
 known c =
     (omega (arith, c.loop-i.invariant.within, c.requires), omega (arith, c.loop-i.invariant.short, c.put_byte-end.ensures.end, c.put_number-first.ensures.upper_bound))
 
--- the names that are lent
-abbrev lent : (c : At-loop-i) → List ℕ
-lent c = c.args.names.now
-
 -- the name that is read lies in them
-named : (c : Else-next-eq0) → Parted (lent c.?) c.loop-i.at c.name_end-next.result
+named : (c : Else-next-eq0) → Parted c.args.names.now c.loop-i.at c.name_end-next.result
 named c = parted _ newline _ _ (omega arith) c.name_end-next.ensures c.if-next-eq0.false
 
 pub put_number-first-requires : goal.put_number-first-requires
@@ -67,13 +60,11 @@ bounds-table-i-in-loop-i c = c.loop-i-test.true
 pub slice_bounds-put_job-count : goal.slice_bounds-put_job-count
 slice_bounds-put_job-count c = (named (goal.at.slice_bounds-put_job-count c).Else-next-eq0).from
 
--- GONE slice-bounds-put-job-start
--- part_put_job_start : tie.Need-slice-bounds-put-job-start invariant-loop decreases-loop
--- part_put_job_start c = (named c.before.before.before).from
+pub slice_bounds-put_job-start : goal.slice_bounds-put_job-start
+slice_bounds-put_job-start c = (named (goal.at.slice_bounds-put_job-start c).Else-next-eq0).from
 
--- GONE slice-bounds-put-job-end
--- part_put_job_end : tie.Need-slice-bounds-put-job-end invariant-loop decreases-loop
--- part_put_job_end c = (named c.before.before.before).to
+pub slice_bounds-put_job-end : goal.slice_bounds-put_job-end
+slice_bounds-put_job-end c = (named (goal.at.slice_bounds-put_job-end c).Else-next-eq0).to
 
 pub put_job-end-requires : goal.put_job-end-requires
 put_job-end-requires c =
