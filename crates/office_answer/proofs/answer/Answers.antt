@@ -10,22 +10,18 @@ use Rattle.office_answer.proofs.answer.Goals as goal
 pub returns-then-text-place-clause-wrote : goal.returns-then-text-place-clause-wrote
 returns-then-text-place-clause-wrote c =
     due
-          (no_names _ _ c.line_place-place.ensures.value (is_read _ c.read_text.ensures.value c.cores-1.given.1 _ (search rules) c.read_text.ensures.table_after)
-          (part_length c.cores-1.given.0.1.0 _ (omega (arith, is_few _ c.read_text.ensures.value c.cores-1.given.1))) c.if-text-place.true)
-          c.put_refused-then-text-place.ensures.wrote refl
+    (no_names _ _ c.line_place-place.ensures.value (is_read _ c.in-Read.ensures.value refl _ (search rules) c.in-Read.ensures.table_after)
+    (part_length c.in-Read.count _ (omega (arith, is_few _ c.in-Read.ensures.value refl))) c.if-text-place.true)
+    c.put_refused-then-text-place.ensures.wrote refl
 
--- GONE slice-bounds-put-named-end
--- part_put_named_end : tie.Need-slice-bounds-put-named-end
--- part_put_named_end c =
---     let k = c.before.before.before.before in
---     let q = k.before.before.before in
---     omega (arith, is_few _ q.read_text_lem.ensures.0 k.cores.given.1)
+pub slice_bounds-put_named-end : goal.slice_bounds-put_named-end
+slice_bounds-put_named-end c = omega (arith, is_few _ c.in-Read.ensures.value refl)
 
 pub returns-in-Unreadable-clause-wrote : goal.returns-in-Unreadable-clause-wrote
 returns-in-Unreadable-clause-wrote c =
-    due (table_bad _ _ c.line_place-place.ensures.value (is_unreadable _ c.read_text.ensures.value c.line-1.given.1)) c.put_refused.ensures.wrote refl
+    due (table_bad _ _ c.line_place-place.ensures.value (is_unreadable _ c.in-Unreadable.ensures.value refl)) c.put_refused.ensures.wrote refl
 
 pub returns-else-text-place-clause-wrote : goal.returns-else-text-place-clause-wrote
 returns-else-text-place-clause-wrote c =
     recast (names_follow _ _ c.line_place-place.ensures.value
-          (is_read _ c.read_text.ensures.value c.cores-1.given.1 _ (search rules) c.read_text.ensures.table_after) c.if-text-place.false) c.put_named.ensures.wrote
+    (is_read _ c.in-Read.ensures.value refl _ (search rules) c.in-Read.ensures.table_after) c.if-text-place.false) c.put_named.ensures.wrote
