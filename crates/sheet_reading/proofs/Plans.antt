@@ -1,11 +1,10 @@
 -- The plan of a sheet, as the code meets it.
-use Prim.Native.Nat.{ℕ, ◌-◌, ◌≤◌}
-use mathlib.Core.Path.{◌≡◌, refl, sym, ap, ◌∙◌}
+use Prim.Native.Nat.{ℕ}
+use mathlib.Core.Path.{◌≡◌, refl, ap}
 use mathlib.Core.List.{List, map}
 use native.Mathlib.Omega.{arith}
 use borrow.Author.Tests.{ne_eqb}
-use lib.ListN.{length, take}
-use lib.Seq.{sets}
+use lib.ListN.{length}
 use Rattle.lists.specs.Lists.{zeros}
 use Rattle.units.specs.Refusals.{refusal, taken}
 use Rattle.writing.specs.Wrote.{Wrote}
@@ -13,7 +12,7 @@ use Rattle.planning.specs.Plan.{plan_of}
 use Rattle.planning.specs.declared.Planned.{Planned}
 use Rattle.name_list.specs.Names.{names_text}
 use Rattle.tick_length.specs.Inner.{held}
-use Rattle.sheet_text.specs.Job.{Job, names_in, ticks_in, jobs_from}
+use Rattle.sheet_text.specs.Job.{Job, names_in, ticks_in}
 use Rattle.sheet_text.specs.Sheet.{says, refused_by, sheet_of}
 use Rattle.sheet_reading.specs.Read.{names_limit, unread, planned, answered, plan_sheet}
 use Rattle.sheet_reading.specs.declared.Sheet.{Sheet}

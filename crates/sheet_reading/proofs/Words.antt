@@ -2,13 +2,13 @@
 use Prim.Native.Nat.{ℕ}
 use mathlib.Core.Path.{◌≡◌, refl, sym, ◌∙◌}
 use mathlib.Core.List.{List}
-use borrow.Author.Tests.{ne_eqb, eq-eqb}
+use borrow.Author.Tests.{ne_eqb}
 use Rattle.units.specs.Refusals.{refusal}
 use Rattle.admission.specs.Admission.{plan_refusal}
 use Rattle.planning.specs.Plan.{plan_of, refused_plan}
 use Rattle.soundness.proofs.Taken.{plan_number}
 use Rattle.sheet_text.specs.Job.{Job, ticks_in}
-use Rattle.sheet_text.specs.Sheet.{says, refused_by, sheet_of}
+use Rattle.sheet_text.specs.Sheet.{says, refused_by}
 use Rattle.sheet_text.specs.Grammar.{Says}
 use Rattle.sheet_text.proofs.EverySheet.{reads}
 use Rattle.sheet_reading.specs.Read.{unread, planned, answered, plan_sheet}

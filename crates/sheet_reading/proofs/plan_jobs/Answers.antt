@@ -1,6 +1,5 @@
 -- `sheet_reading::plan_jobs` meets its contract.
 use mathlib.Core.Path.{◌∙◌}
-use borrow.Author.Rules.{rules}
 use Rattle.sheet_reading.proofs.Plans.{plan_no, plan_is}
 use Rattle.sheet_reading.proofs.plan_jobs.Goals as goal
 
