@@ -1,22 +1,19 @@
 -- The answers of both programs, as the code meets them.
 use Prim.Native.Nat.{ℕ, ◌-◌, ◌≤◌}
 use mathlib.Core.Path.{◌≡◌, refl, sym, ap, ◌∙◌, subst}
-use mathlib.Core.List.{List, ◌++◌}
+use mathlib.Core.List.{List}
 use native.Mathlib.Nat.{sub-zero}
 use native.Mathlib.Omega.{arith}
-use borrow.Author.Tests.{ne_eqb, eq-eqb, le-leb}
-use lib.ListN.{length, take, length-take, length-replicate}
+use borrow.Author.Tests.{ne_eqb, le-leb}
+use lib.ListN.{length, take, length-take}
 use lib.Seq.{length-sets}
 use Rattle.writing.specs.Field.{field, line_end}
 use Rattle.writing.specs.Wrote.{Wrote}
 use Rattle.writing.specs.Refused.{refusal_text}
 use Rattle.writing.proofs.Wrote.{then, recast, fitted}
 use Rattle.lists.specs.Lists.{zeros}
-use Rattle.units.specs.Limits.{tasks_limit}
 use Rattle.name_list.specs.Names.{names_text, names_of}
 use Rattle.sheet_text.specs.Job.{names_in, ticks_in}
-use Rattle.planning.specs.Plan.{plan_of}
-use Rattle.planning.specs.declared.Plan.{Plan}
 use Rattle.soundness.proofs.Taken.{plan_number, plan_kept}
 use Rattle.soundness.proofs.PlannedSound.{plan_sound_lem}
 use Rattle.soundness.proofs.PlannedShape.{started_plan}
@@ -26,13 +23,13 @@ use Rattle.listing.specs.declared.listed.Listed.{Listed}
 use Rattle.listing.proofs.Fits.{listing_length}
 use Rattle.sheet_reading.specs.Read.{names_limit, unread, plan_sheet}
 use Rattle.sheet_reading.specs.declared.Sheet.{Sheet}
-use Rattle.sheet_reading.proofs.Taken.{Taken, read_sheet, is_taken, names_short}
+use Rattle.sheet_reading.proofs.Taken.{Taken, is_taken, names_short}
 use Rattle.scanning.specs.declared.number.Number.{Number}
 use Rattle.scanning.specs.declared.number.Number.TheVariants.{Value, NoNumber}
 use Rattle.table_text.specs.Text.{cores_line}
 use Rattle.sheet_answer.specs.Inner.{answer_limit, Listable}
 use Rattle.sheet_answer.specs.Input.{after_cores, input_sheet}
-use Rattle.sheet_answer.specs.Answers.{name_lines, sheet_names, named_listing, answer_by}
+use Rattle.sheet_answer.specs.Answers.{name_lines, named_listing, answer_by}
 
 -- a sheet that is taken can be listed
 taken_listable : {m : ℕ} {s : List ℕ} → Taken m s → Listable (plan_sheet m s)

@@ -8,7 +8,7 @@ use Rattle.writing.specs.Ascii.{blank, newline}
 use Rattle.writing.specs.Field.{field, line_end}
 use Rattle.writing.specs.Wrote.{Wrote}
 use Rattle.writing.proofs.Wrote.{none, then, recast}
-use Rattle.names.specs.Name.{name_at, name_end}
+use Rattle.names.specs.Name.{name_end}
 use Rattle.name_list.specs.Names.{names_of}
 use Rattle.name_list.proofs.Lines.{names_here, names_done, names_none, names_later, line_ends}
 use Rattle.names.proofs.Written.{name_ahead}

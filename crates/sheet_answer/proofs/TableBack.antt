@@ -1,5 +1,5 @@
 -- The table of a plan is the table that was planned.
-use Prim.Native.Nat.{ℕ, suc, ◌-◌, ◌/◌, ◌%◌, ◌≤◌}
+use Prim.Native.Nat.{ℕ, ◌-◌, ◌/◌, ◌%◌, ◌≤◌}
 use mathlib.Core.Path.{◌≡◌, refl, sym, ap, ◌∙◌}
 use mathlib.Core.List.{List, [], ◌∷◌, ◌++◌}
 use native.Mathlib.Omega.{arith}
@@ -12,8 +12,7 @@ use Rattle.admission.specs.Words.{common_of, weights_of}
 use Rattle.admission.proofs.Exactly.{exactly_taken}
 use Rattle.assignment.specs.Passes.{shares_of, rooms}
 use Rattle.assignment.proofs.Placed.{placed_length}
-use Rattle.planning.specs.Plan.{line, empty_line, lines_of, padded_lines, plan_for, plan_of}
-use Rattle.planning.specs.declared.Line.{Line}
+use Rattle.planning.specs.Plan.{empty_line, lines_of, plan_for, plan_of}
 use Rattle.soundness.proofs.Taken.{taken_fits, taken_plan_lem}
 use Rattle.sheet_answer.specs.Answers.{numbers_of, table_in}
 

@@ -1,10 +1,10 @@
 -- What the programs `sheet` and `table` write, in document 02's words.
 use Prim.Native.Nat.{ℕ, ◌+◌, ◌≤◌}
 use mathlib.Core.Path.{◌≡◌, refl, sym, ap, ap₂, ◌∙◌}
-use mathlib.Core.List.{List, [], ◌∷◌, ◌++◌}
+use mathlib.Core.List.{List, ◌++◌}
 use native.Mathlib.Omega.{arith}
 use borrow.Author.Tests.{ne_eqb}
-use lib.ListN.{length, take, drop, length-replicate}
+use lib.ListN.{length, take, drop}
 use lib.Seq.{sets, sets-eq, take_at}
 use Rattle.lists.specs.Lists.{zeros}
 use Rattle.units.specs.Refusals.{refusal, text_no}
@@ -30,7 +30,7 @@ use Rattle.sheet_reading.specs.declared.Sheet.{Sheet}
 use Rattle.sheet_reading.proofs.Taken.{Taken, read_sheet, names_short}
 use Rattle.sheet_reading.proofs.Words.{sheet_taken}
 use Rattle.sheet_answer.specs.Input.{after_cores, input_sheet}
-use Rattle.sheet_answer.specs.Answers.{name_lines, sheet_names, named_listing, table_in, table_lines, answer_by, sheet_text, table_text}
+use Rattle.sheet_answer.specs.Answers.{name_lines, sheet_names, named_listing, table_lines, answer_by, sheet_text, table_text}
 use Rattle.sheet_answer.proofs.Inputs.{input_none}
 use Rattle.sheet_answer.proofs.TableBack.{table_back, cores_back}
 

@@ -8,21 +8,18 @@ use Rattle.sheet_answer.proofs.input.read_input.Goals as goal
 
 pub overflow_cast-cores : goal.overflow_cast-cores
 overflow_cast-cores c =
-    omega (arith, (field_kept _ _ _ _ _ _ (search rules) (sym c.read_field.ensures ∙ c.m-1.given.1)).0)
+    omega (arith, (field_kept _ _ _ _ _ _ (search rules) (sym c.in-Value.ensures)).0)
 
 pub slice_bounds-plan_sheet-count : goal.slice_bounds-plan_sheet-count
 slice_bounds-plan_sheet-count c =
-    field_ends _ _ _ _ _ _ (search rules) (sym c.read_field.ensures ∙ c.m-1.given.1)
+    field_ends _ _ _ _ _ _ (search rules) (sym c.in-Value.ensures)
 
--- GONE slice-bounds-plan-sheet-start
--- part_plan_sheet_start : tie.Need-slice-bounds-plan-sheet-start
--- part_plan_sheet_start c =
---     let k = c.before in
---     field_ends _ _ _ _ _ _ (search rules) (sym k.before.before.read_field_lem.ensures ∙ k.m.given.1)
+pub slice_bounds-plan_sheet-start : goal.slice_bounds-plan_sheet-start
+slice_bounds-plan_sheet-start c = field_ends _ _ _ _ _ _ (search rules) (sym c.in-Value.ensures)
 
 pub returns-in-NoNumber : goal.returns-in-NoNumber
-returns-in-NoNumber c = c.unread.ensures ∙ input_none _ (sym c.read_field.ensures ∙ c.enum_told-1.given.1)
+returns-in-NoNumber c = c.unread.ensures ∙ input_none _ (sym c.in-NoNumber.ensures)
 
 pub returns-in-Value : goal.returns-in-Value
 returns-in-Value c =
-    c.plan_sheet.ensures ∙ input_is _ (sym c.read_field.ensures ∙ c.m-1.given.1)
+    c.plan_sheet.ensures ∙ input_is _ (sym c.in-Value.ensures)

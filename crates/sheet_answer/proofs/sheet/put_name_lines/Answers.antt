@@ -1,13 +1,9 @@
 -- `sheet_answer::sheet::put_name_lines` meets its contract.
-use Prim.Native.Nat.{◌-◌}
-use mathlib.Core.Path.{sym, ◌∙◌}
 use native.Mathlib.Omega.{arith}
-use borrow.Author.Rules.{rules}
-use lib.ListN.{length}
 use Rattle.writing.proofs.Wrote.{kept}
 use Rattle.name_list.proofs.Lines.{line_ahead}
 use Rattle.names.proofs.Parts.{parted}
-use Rattle.sheet_answer.proofs.NameLines.{Naming, begun, onward, ended, stopped}
+use Rattle.sheet_answer.proofs.NameLines.{begun, onward, ended, stopped}
 use Rattle.sheet_answer.proofs.sheet.put_name_lines.Goals as goal
 
 pub loop-place-init : goal.loop-place-init
@@ -29,13 +25,11 @@ returns-then-next-eq0-clause-upper_bound c =
 pub slice_bounds-put_named-count : goal.slice_bounds-put_named-count
 slice_bounds-put_named-count c = (parted _ _ _ _ (omega arith) c.name_end-next.ensures c.if-next-eq0.false).from
 
--- GONE slice-bounds-put-named-start
--- part_put_named_start : tie.Need-slice-bounds-put-named-start invariant-loop decreases-loop
--- part_put_named_start c = (parted _ _ _ _ (omega arith) c.before.before.name_end_lem.ensures c.before.if1.false).from
+pub slice_bounds-put_named-start : goal.slice_bounds-put_named-start
+slice_bounds-put_named-start c = (parted _ _ _ _ (omega arith) c.name_end-next.ensures c.if-next-eq0.false).from
 
--- GONE slice-bounds-put-named-end
--- part_put_named_end : tie.Need-slice-bounds-put-named-end invariant-loop decreases-loop
--- part_put_named_end c = (parted _ _ _ _ (omega arith) c.before.before.name_end_lem.ensures c.before.if1.false).to
+pub slice_bounds-put_named-end : goal.slice_bounds-put_named-end
+slice_bounds-put_named-end c = (parted _ _ _ _ (omega arith) c.name_end-next.ensures c.if-next-eq0.false).to
 
 pub put_named-end-requires : goal.put_named-end-requires
 put_named-end-requires c =

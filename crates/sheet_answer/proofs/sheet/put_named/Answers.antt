@@ -1,7 +1,6 @@
 -- `sheet_answer::sheet::put_named` meets its contract.
 use native.Mathlib.Omega.{arith}
 use Rattle.sheet_answer.proofs.NameLines.{line_wrote}
-use borrow.Author.Rules.{rules}
 use Rattle.sheet_answer.proofs.sheet.put_named.Goals as goal
 
 pub returns-clause-wrote : goal.returns-clause-wrote

@@ -1,7 +1,6 @@
 -- `sheet_answer::sheet::put_taken` meets its contract.
 use native.Mathlib.Omega.{arith}
 use Rattle.sheet_answer.proofs.Answered.{listed, names_few, parts}
-use borrow.Author.Rules.{rules}
 use Rattle.sheet_answer.proofs.sheet.put_taken.Goals as goal
 
 pub put_field-a-requires : goal.put_field-a-requires

@@ -3,7 +3,6 @@ use native.Mathlib.Omega.{arith}
 use Rattle.writing.proofs.Wrote.{recast}
 use Rattle.sheet_answer.specs.Answers.{table_lines, table_text}
 use Rattle.sheet_answer.proofs.Answered.{listable, answer_no, answer_is}
-use borrow.Author.Rules.{rules}
 use Rattle.sheet_answer.proofs.table.answer_table.Goals as goal
 
 pub returns-then-refusal-ne0-clause-wrote : goal.returns-then-refusal-ne0-clause-wrote

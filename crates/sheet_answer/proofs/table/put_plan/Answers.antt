@@ -1,7 +1,5 @@
 -- `sheet_answer::table::put_plan` meets its contract.
-use native.Mathlib.Omega.{arith}
 use Rattle.writing.proofs.Wrote.{then}
-use borrow.Author.Rules.{rules}
 use Rattle.sheet_answer.proofs.table.put_plan.Goals as goal
 
 pub returns-clause-wrote : goal.returns-clause-wrote

@@ -1,7 +1,6 @@
 -- `sheet_answer::table::put_task` meets its contract.
 use native.Mathlib.Omega.{arith}
 use Rattle.writing.proofs.Wrote.{then}
-use borrow.Author.Rules.{rules}
 use Rattle.sheet_answer.proofs.table.put_task.Goals as goal
 
 pub returns-clause-wrote : goal.returns-clause-wrote

@@ -1,10 +1,8 @@
 -- `sheet_answer::table::put_tasks` meets its contract.
-use Prim.Native.Nat.{◌-◌}
 use mathlib.Core.Path.{refl}
 use native.Mathlib.Omega.{arith}
-use borrow.Author.Rules.{rules}
 use Rattle.writing.proofs.Wrote.{kept}
-use Rattle.sheet_answer.proofs.TableLines.{Tabling, begun, onward, ended}
+use Rattle.sheet_answer.proofs.TableLines.{begun, onward, ended}
 use Rattle.sheet_answer.proofs.table.put_tasks.Goals as goal
 
 pub loop-i-init : goal.loop-i-init

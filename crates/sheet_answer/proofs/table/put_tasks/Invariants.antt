@@ -1,10 +1,6 @@
 -- `sheet_answer::table::put_tasks` meets its contract.
 use Prim.Native.Nat.{◌-◌}
-use mathlib.Core.Path.{refl}
-use native.Mathlib.Omega.{arith}
-use borrow.Author.Rules.{rules}
-use Rattle.writing.proofs.Wrote.{kept}
-use Rattle.sheet_answer.proofs.TableLines.{Tabling, begun, onward, ended}
+use Rattle.sheet_answer.proofs.TableLines.{Tabling}
 use Rattle.sheet_answer.proofs.table.put_tasks.Given as goal
 
 abbrev pub invariant-loop-i : goal.invariant-loop-i
