@@ -1,8 +1,7 @@
 -- `calls_text::calls::calls_place` meets its contract.
-use borrow.Author.Rules.{rules}
 use Rattle.calls_text.specs.Input.{calls_place}
 use Rattle.calls_text.proofs.calls.calls_place.Goals as goal
 
 pub returns : goal.returns
 unfolding calls_place
-returns c = c.line_place.ensures
+returns c = record { value = c.line_place.ensures.value; upper_bound = c.line_place.ensures.upper_bound }

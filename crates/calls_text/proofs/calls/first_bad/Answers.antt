@@ -1,12 +1,9 @@
 -- `calls_text::calls::first_bad` meets its contract.
-use Prim.Native.Nat.{◌+◌, ◌-◌}
 use mathlib.Core.Path.{sym, ap, ◌∙◌}
 use native.Mathlib.Omega.{arith}
-use lib.ListN.{length}
-use Rattle.scanning.proofs.Sought.{Sought, first, later, here, ended}
-use Rattle.calls_text.specs.Line.{call_line, line_after}
+use Rattle.scanning.proofs.Sought.{first, later, here, ended}
+use Rattle.calls_text.specs.Line.{line_after}
 use Rattle.calls_text.proofs.Lines.{ahead}
-use borrow.Author.Rules.{rules}
 use Rattle.calls_text.proofs.calls.first_bad.Goals as goal
 
 pub loop-at-init : goal.loop-at-init

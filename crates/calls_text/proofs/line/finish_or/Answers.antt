@@ -2,15 +2,14 @@
 use mathlib.Core.Path.{sym, ap, ◌∙◌}
 use Rattle.dispatch.specs.declared.call.Call.TheVariants.{Finish}
 use Rattle.calls_text.specs.Line.{call_or, finish_line}
-use borrow.Author.Rules.{rules}
 use Rattle.calls_text.proofs.line.finish_or.Goals as goal
 
 pub returns-in-NoWord : goal.returns-in-NoWord
 unfolding call_or finish_line
 returns-in-NoWord c =
-    c.look_or.ensures ∙ sym (ap (call_or Finish _ _) (sym c.read_word.ensures ∙ c.enum_told-1.given.1))
+    c.look_or.ensures ∙ sym (ap (call_or Finish _ _) (sym c.in-NoWord.ensures))
 
 pub returns-in-After : goal.returns-in-After
 unfolding call_or finish_line
 returns-in-After c =
-    c.read_finish.ensures ∙ sym (ap (call_or Finish _ _) (sym c.read_word.ensures ∙ c.next-1.given.1))
+    c.read_finish.ensures ∙ sym (ap (call_or Finish _ _) (sym c.in-After.ensures))

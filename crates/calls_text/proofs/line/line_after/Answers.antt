@@ -1,13 +1,12 @@
 -- `calls_text::line::line_after` meets its contract.
 use mathlib.Core.Path.{sym, ap}
 use Rattle.calls_text.specs.Line.{line_after}
-use borrow.Author.Rules.{rules}
 use Rattle.calls_text.proofs.line.line_after.Goals as goal
 
 pub returns-in-Called : goal.returns-in-Called
 unfolding line_after
-returns-in-Called c = sym (ap line_after c.line-1.given.1)
+returns-in-Called c = sym (ap line_after c.in-Called.is)
 
 pub returns-in-NoCall : goal.returns-in-NoCall
 unfolding line_after
-returns-in-NoCall c = sym (ap line_after c.enum_told-1.given.1)
+returns-in-NoCall c = sym (ap line_after c.in-NoCall.is)

@@ -1,14 +1,13 @@
 -- `calls_text::line::read_release` meets its contract.
-use mathlib.Core.Path.{sym, ap, ◌∙◌}
+use mathlib.Core.Path.{sym, ap}
 use Rattle.dispatch.specs.declared.call.Call.TheVariants.{Release}
 use Rattle.calls_text.specs.Line.{as_call}
-use borrow.Author.Rules.{rules}
 use Rattle.calls_text.proofs.line.read_release.Goals as goal
 
 pub returns-in-NoPair : goal.returns-in-NoPair
 unfolding as_call
-returns-in-NoPair c = sym (ap (as_call Release) (sym c.read_pair.ensures ∙ c.enum_told-1.given.1))
+returns-in-NoPair c = sym (ap (as_call Release) (sym c.in-NoPair.ensures))
 
 pub returns-in-Two : goal.returns-in-Two
 unfolding as_call
-returns-in-Two c = sym (ap (as_call Release) (sym c.read_pair.ensures ∙ c.i-1.given.1))
+returns-in-Two c = sym (ap (as_call Release) (sym c.in-Two.ensures))
