@@ -1,7 +1,6 @@
 -- `seats::Seat::end` meets its contract.
 use Prim.Native.Nat.{ℕ}
 use mathlib.Core.Path.{◌≡◌}
-use borrow.Author.Rules.{rules}
 use lib.IntN.{ℤ, sub_ℕ}
 use Rattle.arith.proofs.Signed.{pos_fits, sub_fits, sub_is}
 use Rattle.planning.specs.declared.Line.{Line}
