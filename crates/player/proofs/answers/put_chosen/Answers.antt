@@ -1,6 +1,5 @@
 -- `player::answers::put_chosen` meets its contract.
 use Rattle.writing.proofs.Wrote.{then}
-use borrow.Author.Rules.{rules}
 use Rattle.player.proofs.answers.put_chosen.Goals as goal
 
 pub returns-clause-wrote : goal.returns-clause-wrote

@@ -4,29 +4,26 @@ use native.Mathlib.Omega.{arith}
 use Rattle.table_text.proofs.Answered.{is_unreadable, is_few, is_read, part_few}
 use Rattle.player.proofs.Gives.{too_long, table_bad, table_good}
 use borrow.Author.Rules.{rules}
+use mathlib.Core.Path.{refl}
 use Rattle.player.proofs.play.play.Goals as goal
 
 pub returns-then-text-gt-INPUT-clause-wrote : goal.returns-then-text-gt-INPUT-clause-wrote
 returns-then-text-gt-INPUT-clause-wrote c =
     recast (too_long _ c.if-text-gt-INPUT.true) c.put_unreadable.ensures.wrote
 
--- GONE slice-bounds-play-table-end
--- part_play_table_end : tie.Need-slice-bounds-play-table-end
--- part_play_table_end c =
---     let k = c.before.before in
---     let q = k.before.before.before in
---     omega (arith, is_few _ q.read_text_lem.ensures.0 k.cores.given.1)
+pub slice_bounds-play_table-end : goal.slice_bounds-play_table-end
+slice_bounds-play_table-end c = omega (arith, is_few _ c.in-Read.ensures.value refl)
 
 pub play_table-requires : goal.play_table-requires
 play_table-requires c =
-    (search rules, part_few _ _ _ (is_few _ c.read_text.ensures.value c.cores-1.given.1))
+    (search rules, part_few _ _ _ (is_few _ c.in-Read.ensures.value refl))
 
 pub returns-in-Unreadable-clause-wrote : goal.returns-in-Unreadable-clause-wrote
 returns-in-Unreadable-clause-wrote c =
-    recast (table_bad _ c.if-text-gt-INPUT.false c.calls_place-place.ensures.value (is_unreadable _ c.read_text.ensures.value c.line-1.given.1))
-          c.put_unreadable-in-Unreadable.ensures.wrote
+    recast (table_bad _ c.if-text-gt-INPUT.false c.calls_place-place.ensures.value (is_unreadable _ c.in-Unreadable.ensures.value refl))
+    c.put_unreadable-in-Unreadable.ensures.wrote
 
 pub returns-in-Read-clause-wrote : goal.returns-in-Read-clause-wrote
 returns-in-Read-clause-wrote c =
     recast (table_good _ c.if-text-gt-INPUT.false c.calls_place-place.ensures.value
-          (is_read _ c.read_text.ensures.value c.cores-1.given.1 _ (search rules) c.read_text.ensures.table_after)) c.play_table.ensures.wrote
+    (is_read _ c.in-Read.ensures.value refl _ (search rules) c.in-Read.ensures.table_after)) c.play_table.ensures.wrote

@@ -1,7 +1,6 @@
 -- `player::play::play_taken` meets its contract.
 use Rattle.writing.proofs.Wrote.{recast}
 use Rattle.player.proofs.Gives.{refused, taken}
-use borrow.Author.Rules.{rules}
 use Rattle.player.proofs.play.play_taken.Goals as goal
 
 pub returns-then-refusal-ne0-clause-wrote : goal.returns-then-refusal-ne0-clause-wrote

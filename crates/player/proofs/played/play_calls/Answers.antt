@@ -1,12 +1,10 @@
 -- `player::played::play_calls` meets its contract.
-use Prim.Native.Nat.{◌-◌}
 use mathlib.Core.Path.{sym, ap, ◌∙◌}
 use native.Mathlib.Omega.{arith}
-use lib.ListN.{length}
 use Rattle.writing.proofs.Wrote.{kept}
 use Rattle.calls_text.specs.Line.{line_after}
 use Rattle.calls_text.proofs.Lines.{ahead}
-use Rattle.player.proofs.Plays.{Playing, begun, ended, stopped, onward}
+use Rattle.player.proofs.Plays.{begun, ended, stopped, onward}
 use borrow.Author.Rules.{rules}
 use Rattle.player.proofs.played.play_calls.Goals as goal
 
@@ -38,7 +36,7 @@ loop-at-smaller c =
 pub loop-at-preserved : goal.loop-at-preserved
 loop-at-preserved c =
     onward c.loop-at.invariant c.loop-at-test.true c.read_call-line.ensures (search rules) c.line_after-next.ensures
-    c.if-next-eq0.false c.play_line-played.ensures.next_value c.play_line-played.ensures.wrote.0 c.play_line-played.ensures.wrote.1
+    c.if-next-eq0.false c.play_line-played.ensures.next_value c.play_line-played.ensures.wrote c.play_line-played.ensures.end_bound
 
 pub shape_of-buf : goal.shape_of-buf
 shape_of-buf c = kept c.loop-at.invariant.wrote

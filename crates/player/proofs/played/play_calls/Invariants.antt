@@ -1,13 +1,7 @@
 -- `player::played::play_calls` meets its contract.
 use Prim.Native.Nat.{◌-◌}
-use mathlib.Core.Path.{sym, ap, ◌∙◌}
-use native.Mathlib.Omega.{arith}
 use lib.ListN.{length}
-use Rattle.writing.proofs.Wrote.{kept}
-use Rattle.calls_text.specs.Line.{line_after}
-use Rattle.calls_text.proofs.Lines.{ahead}
-use Rattle.player.proofs.Plays.{Playing, begun, ended, stopped, onward}
-use borrow.Author.Rules.{rules}
+use Rattle.player.proofs.Plays.{Playing}
 use Rattle.player.proofs.played.play_calls.Given as goal
 
 abbrev pub invariant-loop-at : goal.invariant-loop-at
