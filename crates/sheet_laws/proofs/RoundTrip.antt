@@ -1,5 +1,5 @@
 -- What is written reads back as it was; what is read can be written again, and is the same bytes where its numbers are whole ticks.
-use Prim.Native.Nat.{ℕ, suc, ◌+◌, ◌*◌, ◌/◌, ◌%◌, ◌≤◌, ◌<◌}
+use Prim.Native.Nat.{ℕ, suc, ◌*◌, ◌/◌, ◌%◌, ◌≤◌, ◌<◌}
 use mathlib.Core.Path.{◌≡◌, refl, sym, ap, ap₂, ◌∙◌, subst}
 use mathlib.Core.List.{List, [], ◌∷◌}
 use native.Mathlib.Omega.{arith}
@@ -15,7 +15,6 @@ use Rattle.soundness.proofs.Taken.{plan_number}
 use Rattle.names.specs.Name.{Name}
 use Rattle.name_list.specs.Names.{names_text}
 use Rattle.name_list.proofs.Lists.{All}
-use Rattle.tick_length.specs.Ticks.{cost_ticks, period_ticks}
 use Rattle.tick_length.proofs.NoneLost.{cost_whole, period_whole, none_lost}
 use Rattle.sheet_text.specs.Job.{Job, Each, none, also, job, names_in, ticks_in}
 use Rattle.sheet_text.specs.Whole.{Whole, NoneLost}
