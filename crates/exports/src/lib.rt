@@ -1,2 +1,103 @@
-// No code: in proofs/ one theorem for each shape of call that is exported to C and lends more than numbers and slices.
+// One theorem for each shape of call on a lent record: it loads what is lent, makes one call by value and stores what that hands on. What it
+// answers and leaves is then what the call answered, whatever the record and the values are. Each theorem is a function's contract.
 #![tactic(auto)]
+
+ghost use Rattle.std.specs.Prelude.{◌≡◌};
+
+// What a call answers that leaves a record alone: the refusal, and the record.
+#[derive(Clone, Copy, Drop)]
+pub struct Record<R> {
+    pub refusal: u32,
+    pub next: R,
+}
+
+// A value beside the refusal.
+#[derive(Clone, Copy, Drop)]
+pub struct Value<Q> {
+    pub refusal: u32,
+    pub out: Q,
+}
+
+// A value and the record.
+#[derive(Clone, Copy, Drop)]
+pub struct OneValue<Q, R> {
+    pub refusal: u32,
+    pub out: Q,
+    pub next: R,
+}
+
+// Two values and the record.
+#[derive(Clone, Copy, Drop)]
+pub struct TwoValues<P, Q, R> {
+    pub refusal: u32,
+    pub one: P,
+    pub two: Q,
+    pub next: R,
+}
+
+// A call that fills a lent record from a number and a slice, or refuses and leaves it.
+pub fn fills_record<R: Copy, A: Drop, T, G: Fn(R, A, &[T]) -> Record<R>>(
+    g: &G,
+    held: &mut R,
+    a: A,
+    table: &[T],
+) -> u32
+    requires { G.pre g.now held.old a table }
+    ensures { G.post g.now held.old a table.entry (record { refusal = result; next = held.new }) }
+{
+    let after = g(*held, a, table);
+    *held = after.next;
+    after.refusal
+}
+
+// A call on a lent record with two numbers in and one value out.
+pub fn one_value_out<R: Copy, Q: Copy, A: Drop, B: Drop, G: Fn(R, A, B, Q) -> OneValue<Q, R>>(
+    g: &G,
+    held: &mut R,
+    a: A,
+    b: B,
+    out: &mut Q,
+) -> u32
+    requires { G.pre g.now held.old a b out.old }
+    ensures { G.post g.now held.old a b out.old (record { refusal = result; out = out.new; next = held.new }) }
+{
+    let after = g(*held, a, b, *out);
+    *held = after.next;
+    *out = after.out;
+    after.refusal
+}
+
+// A call on a lent record with two numbers in and two values out.
+pub fn two_values_out<
+    R: Copy,
+    P: Copy,
+    Q: Copy,
+    A: Drop,
+    B: Drop,
+    G: Fn(R, A, B, P, Q) -> TwoValues<P, Q, R>,
+>(g: &G, held: &mut R, a: A, b: B, one: &mut P, two: &mut Q) -> u32
+    requires { G.pre g.now held.old a b one.old two.old }
+    ensures { G.post g.now held.old a b one.old two.old (record { refusal = result; one = one.new; two = two.new; next = held.new }) }
+{
+    let after = g(*held, a, b, *one, *two);
+    *held = after.next;
+    *one = after.one;
+    *two = after.two;
+    after.refusal
+}
+
+// A call that reads a lent record, fills a lent buffer and leaves a value beside it.
+pub fn fills_buffer<R: Copy, Q: Copy, T, G: Fn(R, &mut [T], Q) -> Value<Q>>(
+    g: &G,
+    held: &R,
+    buf: &mut [T],
+    out: &mut Q,
+) -> u32
+    requires { (b : _) → b.now ≡ buf.old → G.pre g.now held.now b out.old }
+    ensures { (b : _) × (b' : _) × (b.now ≡ buf.old) × (b'.now ≡ buf.new)
+        × G.post g.now held.now b out.old (record { refusal = result; out = out.new }) b' }
+{
+    let after = g(*held, buf, *out);
+    *out = after.out;
+    after.refusal
+}

@@ -3,7 +3,6 @@ pub mod Held
 pub mod Out
 pub mod Answers
 pub mod Examples
-pub mod Types
 pub mod Started
 pub mod Listed
 pub mod Settled
