@@ -50,7 +50,8 @@ impl Seat {
         let state = self.state;
         let work = self.work;
         let no = state.release_tests(line, time);
-        if no != 0 {
+        let refused = no != 0;
+        if refused {
             let front = front_of(line, state, work);
             return Arrived {
                 refusal: no,

@@ -1,6 +1,7 @@
 -- `seats::Seat::end` meets its contract.
 use Prim.Native.Nat.{ℕ}
 use mathlib.Core.Path.{◌≡◌}
+use borrow.Author.Rules.{rules}
 use lib.IntN.{ℤ, sub_ℕ}
 use Rattle.arith.proofs.Signed.{pos_fits, sub_fits, sub_is}
 use Rattle.planning.specs.declared.Line.{Line}
@@ -27,13 +28,13 @@ module _ (ln : Line) (st : State) (wk : Work) (t : ℕ) {after : State} {less : 
   ended q e = rw (q, e, p, m)
 
 pub overflow_cast-late : goal.overflow_cast-late
-overflow_cast-late c = pos_fits _ c.requires.time
+overflow_cast-late c = search (rules, pos_fits, c.requires.time, c.requires.due)
 
 pub overflow_cast-late-2 : goal.overflow_cast-late-2
-overflow_cast-late-2 c = pos_fits _ c.requires.due
+overflow_cast-late-2 c = search (rules, pos_fits, c.requires.time, c.requires.due)
 
 pub overflow_sub-late : goal.overflow_sub-late
-overflow_sub-late c = let s = c.requires in sub_fits _ _ s.time s.due
+overflow_sub-late c = search (rules, sub_fits, c.requires.time, c.requires.due)
 
 pub without_run-after-requires : goal.without_run-after-requires
 without_run-after-requires c = c.requires.live
