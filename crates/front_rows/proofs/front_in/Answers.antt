@@ -1,6 +1,5 @@
 -- `front_rows::front_in` meets its contract.
 use mathlib.Core.Path.{refl}
-use borrow.Author.Rules.{rules}
 use Rattle.front_rows.proofs.front_in.Goals as goal
 
 pub returns : goal.returns

@@ -2,7 +2,6 @@
 use Prim.Native.Nat.{ℕ, ◌+◌, ◌*◌}
 use mathlib.Core.Path.{◌≡◌}
 use mathlib.Core.List.{List}
-use borrow.Author.Rules.{rules}
 use lib.ListN.{set}
 use Rattle.fronts.specs.declared.Front.{Front}
 use Rattle.front_rows.specs.Rows.{put_front}
