@@ -1,8 +1,6 @@
 -- `instants::least_left` meets its contract.
-use Prim.Native.Nat.{◌-◌, ◌≤◌}
 use mathlib.Core.Path.{◌≡◌, refl}
 use native.Mathlib.Omega.{arith}
-use borrow.Author.Rules.{rules}
 use Rattle.instants.specs.Seen.{least_left}
 use Rattle.instants.proofs.Steps.{least_less, least_same}
 use Rattle.instants.proofs.least_left.Goals.{then-one-least, else-one-least}

@@ -1,11 +1,7 @@
 -- `instants::least_left` meets its contract.
 use Prim.Native.Nat.{◌-◌, ◌≤◌}
-use mathlib.Core.Path.{◌≡◌, refl}
-use mathlib.Core.Logic.{⊎_elim}
-use native.Mathlib.Omega.{arith}
-use borrow.Author.Rules.{rules}
+use mathlib.Core.Path.{◌≡◌}
 use Rattle.instants.specs.Seen.{least_left}
-use Rattle.instants.proofs.Steps.{least_less, least_same}
 use Rattle.instants.proofs.least_left.Given as goal
 
 abbrev pub invariant-loop-k : goal.invariant-loop-k

@@ -1,11 +1,10 @@
 -- `instants::scan` meets its contract.
-use Prim.Native.Nat.{◌-◌, ◌≤◌, ◌<◌}
+use Prim.Native.Nat.{◌≤◌, ◌<◌}
 use mathlib.Core.Path.{◌≡◌, refl, sym, ◌∙◌}
 use native.Mathlib.Omega.{arith}
 use borrow.Author.Rules.{rules}
-use lib.ListN.{length, get_or}
+use lib.ListN.{get_or}
 use Rattle.units.specs.Limits.{cores_limit}
-use Rattle.units.specs.Units.{ticks}
 use Rattle.fronts.specs.Front.{no_front}
 use Rattle.front_rows.specs.Rows.{fronts_in}
 use Rattle.front_rows.proofs.Rows.{fronts_at}

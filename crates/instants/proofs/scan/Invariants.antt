@@ -1,18 +1,11 @@
 -- `instants::scan` meets its contract.
-use Prim.Native.Nat.{◌-◌, ◌≤◌, ◌<◌}
-use mathlib.Core.Path.{◌≡◌, refl, sym, ◌∙◌}
-use mathlib.Core.Logic.{⊎_elim}
-use native.Mathlib.Omega.{arith}
-use borrow.Author.Rules.{rules}
-use lib.ListN.{length, get_or}
+use Prim.Native.Nat.{◌-◌, ◌≤◌}
+use mathlib.Core.Path.{◌≡◌}
+use lib.ListN.{length}
 use Rattle.units.specs.Limits.{cores_limit}
 use Rattle.units.specs.Units.{ticks}
-use Rattle.fronts.specs.Front.{no_front}
 use Rattle.front_rows.specs.Rows.{fronts_in}
-use Rattle.front_rows.proofs.Rows.{fronts_at}
 use Rattle.instants.specs.Seen.{seen_of, next_of}
-use Rattle.instants.proofs.Steps.{seen_more, seen_less, next_more}
-use Rattle.instants.proofs.Scanned.{sees_core}
 use Rattle.instants.proofs.scan.Given as goal
 
 abbrev pub invariant-loop-i : goal.invariant-loop-i

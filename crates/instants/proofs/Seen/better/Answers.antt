@@ -4,7 +4,6 @@ use mathlib.Core.Path.{◌≡◌, refl}
 use mathlib.Core.Bool.{true, false, ◌||◌}
 use native.Mathlib.Omega.{arith}
 use lib.Dec.{ltb, eqb}
-use borrow.Author.Rules.{rules}
 use Rattle.fronts.specs.declared.Front.{Front}
 use Rattle.instants.specs.declared.Seen.{Seen}
 use Rattle.instants.specs.Seen.{better}
