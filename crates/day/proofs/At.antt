@@ -6,7 +6,7 @@ use mathlib.Core.List.{List}
 use native.Mathlib.Decide.{ℕ_discrete}
 use native.Mathlib.Omega.{arith}
 use lib.Dec.{ltb, eqb}
-use lib.ListN.{length, get_or, set, length-set, get_or-replicate, get_or-eq_default}
+use lib.ListN.{get_or, set, length-set, get_or-replicate, get_or-eq_default}
 use lib.Seq.{get_or-set_same, get_or-set_other}
 use borrow.Author.Tests.{eqb-false, ltb-true, ltb-false, lt-ltb, ne_eqb}
 use Rattle.lists.specs.Lists.{zeros}

@@ -24,7 +24,7 @@ use Rattle.dispatch.proofs.Keeps.{release_good, finish_good, look_good}
 use Rattle.dispatch.proofs.Always.{step_plan, refused_same, accepted_clock}
 use Rattle.dispatch.proofs.Fresh.{fresh_good}
 use Rattle.arrivals.specs.Arrivals.{arrivals_in, arrival_time, arrival_task}
-use Rattle.day_rules.specs.Day.{Day, going_at, taken, arrivals, look_at, looks, run_on, runs_on, done, finished, finish, finishes, tick, start_day, day_at}
+use Rattle.day_rules.specs.Day.{Day, going_at, taken, arrivals, look_at, looks, run_on, runs_on, done, finished, finish, finishes, start_day, day_at}
 use Rattle.run_lengths.specs.Work.{length_at}
 use Rattle.goings.specs.Going.{ran_by}
 use Rattle.day.specs.Desk.{Desk, desk_of, line_of, state_of, work_of, had_of, run_of, takes, arrived_by, looks_at, looked_at, ran_on, done_of, ends_on, ends, ended_by, fresh_desk, desk_at}

@@ -11,7 +11,7 @@ use Rattle.lists.proofs.Tests.{by_cases, and_left, and_right}
 use Rattle.planning.specs.declared.Plan.{Plan}
 use Rattle.arrivals.specs.Arrivals.{arrivals_in, arrival_time}
 use Rattle.run_lengths.specs.Work.{length_at}
-use Rattle.day.specs.Desk.{Desk, work_of, had_of, run_of, arrives, arrived_by, choice_at, number_of, looked_at, ran_on, done_of, ended_by, leap, desk_at, ran_at}
+use Rattle.day.specs.Desk.{Desk, work_of, had_of, run_of, arrived_by, choice_at, number_of, looked_at, ran_on, done_of, ended_by, leap, desk_at, ran_at}
 use Rattle.day.proofs.Looked.{goes_task, goes_run, choice_by_lem, number_by, looked_states, looked_works, looked_had, looked_at_lem, looked_again}
 use Rattle.day.proofs.Ran.{having_one, ran_is, ran_more, ran_none}
 

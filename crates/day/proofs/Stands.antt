@@ -27,7 +27,7 @@ use Rattle.run_lengths.specs.declared.Work.{Work}
 use Rattle.run_lengths.specs.Work.{no_work, length_at, without_length}
 use Rattle.goings.specs.Going.{ran_by}
 use Rattle.goings.proofs.Ran.{ran_long}
-use Rattle.day.specs.Desk.{Desk, line_of, state_of, work_of, had_of, run_of, box_of, choice_at, number_of, looked_at, ran_on, ends_on, ends}
+use Rattle.day.specs.Desk.{Desk, line_of, state_of, work_of, had_of, run_of, box_of, choice_at, number_of, looked_at, ran_on, ends_on}
 use Rattle.day.proofs.Looked.{goes_task, looked_states, looked_works, looked_had, looked_long, looked_at_lem}
 use Rattle.day.proofs.Ran.{having, having_none, having_one, ran_is}
 use Rattle.day.proofs.Kept.{Kept, released_of, later_kept, without_kept, length_up}
