@@ -3,7 +3,6 @@ use mathlib.Core.Path.{refl}
 use Rattle.day_window.proofs.Windows.{none, recast}
 use Rattle.day_window.proofs.Saying.{told}
 use Rattle.day_writing.proofs.Said.{taken, refused}
-use borrow.Author.Rules.{rules}
 use Rattle.day_writing.proofs.put_arrival.Goals as goal
 
 pub returns-then-no-eq0-clause-windowed : goal.returns-then-no-eq0-clause-windowed

@@ -3,7 +3,6 @@ use mathlib.Core.Path.{refl}
 use Rattle.day_window.proofs.Windows.{none, recast}
 use Rattle.day_window.proofs.Saying.{told}
 use Rattle.day_writing.proofs.Said.{no_span, a_span}
-use borrow.Author.Rules.{rules}
 use Rattle.day_writing.proofs.put_span.Goals as goal
 
 pub returns-then-same-old-clause-windowed : goal.returns-then-same-old-clause-windowed

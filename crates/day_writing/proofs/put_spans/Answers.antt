@@ -1,10 +1,8 @@
 -- `day_writing::put_spans` meets its contract.
-use Prim.Native.Nat.{◌-◌}
 use mathlib.Core.Path.{◌∙◌}
 use native.Mathlib.Omega.{arith}
 use Rattle.day_window.proofs.Windows.{kept}
-use Rattle.day_writing.proofs.Spans.{Ending, start, more, as_many, whole}
-use borrow.Author.Rules.{rules}
+use Rattle.day_writing.proofs.Spans.{start, more, as_many, whole}
 use Rattle.day_writing.proofs.put_spans.Goals as goal
 
 pub loop-core-init : goal.loop-core-init

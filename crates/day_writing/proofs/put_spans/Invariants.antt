@@ -1,10 +1,6 @@
 -- `day_writing::put_spans` meets its contract.
 use Prim.Native.Nat.{◌-◌}
-use mathlib.Core.Path.{◌∙◌}
-use native.Mathlib.Omega.{arith}
-use Rattle.day_window.proofs.Windows.{kept}
-use Rattle.day_writing.proofs.Spans.{Ending, start, more, as_many, whole}
-use borrow.Author.Rules.{rules}
+use Rattle.day_writing.proofs.Spans.{Ending}
 use Rattle.day_writing.proofs.put_spans.Given as goal
 
 abbrev pub invariant-loop-core : goal.invariant-loop-core
