@@ -4,7 +4,6 @@ use mathlib.Core.Bool.{cond}
 use lib.Dec.{eqb}
 use Rattle.day_window.proofs.Saying.{told}
 use Rattle.unfinished_runs.proofs.Left.{oldest, younger, run_told}
-use borrow.Author.Rules.{rules}
 use Rattle.unfinished_runs.proofs.put_run.Goals.{then-k-eq0, else-k-eq0}
 use Rattle.unfinished_runs.proofs.put_run.Goals as goal
 

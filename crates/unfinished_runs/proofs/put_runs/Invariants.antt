@@ -1,13 +1,7 @@
 -- `unfinished_runs::put_runs` meets its contract.
 use Prim.Native.Nat.{◌-◌}
-use mathlib.Core.Path.{refl}
-use mathlib.Core.List.{[], ◌∷◌}
-use Rattle.day_window.proofs.Windows.{kept, recast}
-use Rattle.day_window.proofs.Saying.{Saying, alone, begun, onward, all}
+use Rattle.day_window.proofs.Saying.{Saying}
 use Rattle.day_rules.specs.Day.{runs_left}
-use Rattle.unfinished_runs.specs.Inner.{run_left}
-use Rattle.unfinished_runs.proofs.Left.{runs_more}
-use borrow.Author.Rules.{rules}
 use Rattle.unfinished_runs.proofs.put_runs.Given as goal
 
 abbrev pub invariant-loop-k : goal.invariant-loop-k

@@ -1,14 +1,13 @@
 -- `unfinished_runs::put_unfinished` meets its contract.
-use Prim.Native.Nat.{◌-◌, ◌*◌}
+use Prim.Native.Nat.{◌*◌}
 use mathlib.Core.Path.{refl}
 use native.Mathlib.Omega.{arith}
 use native.Mathlib.Numerals.{add-one}
 use Rattle.day_window.proofs.Windows.{kept}
-use Rattle.day_window.proofs.Saying.{Saying, begun, onward, all}
+use Rattle.day_window.proofs.Saying.{begun, onward, all}
 use Rattle.units.specs.Limits.{runs_limit}
 use Rattle.unfinished_runs.specs.Left.{left_by}
 use Rattle.unfinished_runs.proofs.Left.{left_more}
-use borrow.Author.Rules.{rules}
 use Rattle.unfinished_runs.proofs.put_unfinished.Goals as goal
 
 pub loop-i-init : goal.loop-i-init
