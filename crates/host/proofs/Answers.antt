@@ -5,7 +5,6 @@ use mathlib.Core.Logic.{⊎_elim}
 use mathlib.Core.List.{List}
 use native.Mathlib.Omega.{arith}
 use lib.IntN.{pos, negsuc, sub_ℕ}
-use lib.ListN.{length}
 use borrow.Author.Tests.{lt-ltb, eq-eqb, ne_eqb}
 use Rattle.admission.specs.Admission.{plan_refusal, admission_of}
 use Rattle.admission.specs.declared.admit.Admission.{Admission}

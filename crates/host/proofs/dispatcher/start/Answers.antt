@@ -1,0 +1,21 @@
+-- `host::dispatcher::start` meets its contract.
+use mathlib.Core.Path.{ap, ◌∙◌}
+use Rattle.dispatch.specs.Record.{fresh_of}
+use Rattle.host.proofs.Held.{part_within, part}
+use Rattle.host.proofs.Started.{start_taken, start_refused}
+use Rattle.host.proofs.dispatcher.start.Goals as goal
+
+pub slice_bounds-fresh-end : goal.slice_bounds-fresh-end
+slice_bounds-fresh-end c = part_within c.args.table.now c.table_of-read.result c.table_of-read.ensures
+
+pub returns-then-refusal-eq0 : goal.returns-then-refusal-eq0
+returns-then-refusal-eq0 c =
+    start_taken c.args.held c.args.cores c.args.table.now
+    (c.fresh-fresh.ensures ∙ ap (fresh_of c.args.cores) (part c.args.table.now c.table_of-read.result c.table_of-read.ensures))
+    c.if-refusal-eq0.true
+
+pub returns-else-refusal-eq0 : goal.returns-else-refusal-eq0
+returns-else-refusal-eq0 c =
+    start_refused c.args.held c.args.cores c.args.table.now
+    (c.fresh-fresh.ensures ∙ ap (fresh_of c.args.cores) (part c.args.table.now c.table_of-read.result c.table_of-read.ensures))
+    c.if-refusal-eq0.false
