@@ -1,20 +1,16 @@
 -- What is said at the stop: the spans that end there, and the unfinished runs.
-use Prim.Native.Nat.{ℕ, zero, suc, ◌+◌, ◌*◌, ◌≤◌, ◌<◌}
+use Prim.Native.Nat.{ℕ, zero, suc, ◌≤◌}
 use mathlib.Core.Path.{◌≡◌, refl, sym, ap, ◌∙◌}
 use mathlib.Core.List.{List, ◌∷◌, ◌++◌, append_assoc, append-nil}
-use native.Mathlib.Nat.{le_antisymm}
 use native.Mathlib.Omega.{arith}
-use native.Mathlib.Numerals.{add-one}
 use lib.ListN.{length, get_or, replicate, get_or-replicate}
 use lib.Seq.{get_or-set_other}
-use Rattle.units.specs.Limits.{cores_limit, tasks_limit, runs_limit}
+use Rattle.units.specs.Limits.{cores_limit, tasks_limit}
 use Rattle.units.specs.Units.{ticks}
 use Rattle.planning.specs.declared.Plan.{Plan}
 use Rattle.soundness.proofs.Facts.{cores_few, tasks_few}
 use Rattle.state_rules.proofs.Facts.{facts}
 use Rattle.dispatch.proofs.Records.{task_sound}
-use Rattle.seats.specs.declared.Seat.{Seat}
-use Rattle.seats.specs.Seat.{no_seat}
 use Rattle.goings.specs.declared.Going.{Going}
 use Rattle.goings.specs.Going.{no_going}
 use Rattle.goings.specs.Rows.{goings_in}
@@ -30,7 +26,7 @@ use Rattle.day_lines.specs.Lines.{event_text, events_text}
 use Rattle.day_window.specs.Window.{Windowed}
 use Rattle.day_window.proofs.Windows.{none, then, recast}
 use Rattle.day_lines.proofs.Events.{events_append}
-use Rattle.day_rules.specs.Day.{Day, going_at, span_end, closes, runs_left, unfinished, day_at, events_of, day_text}
+use Rattle.day_rules.specs.Day.{Day, going_at, span_end, closes, unfinished, day_at, events_of, day_text}
 use Rattle.day_rules.specs.Spans.{spans_end}
 use Rattle.day.specs.Desk.{line_of, state_of, box_of, desk_of, desk_at}
 use Rattle.day.specs.Desk as model

@@ -2,7 +2,6 @@
 use mathlib.Core.Path.{refl}
 use native.Mathlib.Omega.{arith}
 use Rattle.rehearsal.proofs.AtStop.{cores_in, tasks_in, leavable, texts}
-use borrow.Author.Rules.{rules}
 use Rattle.rehearsal.proofs.ending.write_day.Goals as goal
 
 pub put_spans-spans-requires : goal.put_spans-spans-requires

@@ -1,5 +1,4 @@
 -- `rehearsal::parts::coming_at` meets its contract.
-use borrow.Author.Rules.{rules}
 use Rattle.rehearsal.proofs.Parted.{comes, comes_later, comes_none}
 use Rattle.rehearsal.proofs.parts.coming_at.Goals as goal
 

@@ -1,10 +1,7 @@
 -- `rehearsal::parts::fresh_fronts` meets its contract.
 use Prim.Native.Nat.{◌-◌, ◌≤◌}
-use mathlib.Core.Path.{◌≡◌, refl, ◌∙◌}
-use native.Mathlib.Omega.{arith}
-use borrow.Author.Rules.{rules}
+use mathlib.Core.Path.{◌≡◌}
 use Rattle.rehearsal.specs.Parts.{fresh_fronts}
-use Rattle.rehearsal.proofs.Parted.{fresh_asked, fresh_more, fresh_rows}
 use Rattle.rehearsal.proofs.parts.fresh_fronts.Given as goal
 
 abbrev pub invariant-loop-i : goal.invariant-loop-i

@@ -1,5 +1,5 @@
 -- `rehearsal::steps::rehearse` meets its contract.
-use Prim.Native.Nat.{ℕ, ◌+◌, ◌-◌, ◌*◌, ◌/◌, ◌≤◌, ◌<◌}
+use Prim.Native.Nat.{ℕ, ◌+◌, ◌-◌, ◌*◌, ◌≤◌, ◌<◌}
 use mathlib.Core.Logic.{◌⊎◌, inl, inr}
 use mathlib.Core.Path.{◌≡◌, sym, ap, ◌∙◌}
 use mathlib.Core.Bool.{true, ◌||◌}
@@ -8,7 +8,7 @@ use lib.Dec.{ltb}
 use lib.ListN.{length, get_or}
 use borrow.Author.Tests.{ltb-false, ltb-true}
 use Rattle.lists.proofs.Tests.{or_cases, or_false_left, or_false_right}
-use Rattle.units.specs.Limits.{cores_limit, tasks_limit}
+use Rattle.units.specs.Limits.{tasks_limit}
 use Rattle.units.specs.declared.ticks.Ticks.{Ticks}
 use Rattle.soundness.proofs.Facts.{cores_few, tasks_few}
 use Rattle.arrivals.specs.Arrivals.{arrivals_in, arrival_task}
@@ -17,11 +17,9 @@ use Rattle.goings.specs.Rows.{going_at}
 use Rattle.front_rows.specs.Rows.{front_at}
 use Rattle.day_window.proofs.Windows.{kept}
 use Rattle.rehearsal.specs.declared.steps.Desk.{Desk}
-use Rattle.rehearsal.specs.Inner.{Rehearsable}
 use Rattle.rehearsal.specs.Parts.{coming_at, done_by}
 use Rattle.rehearsal.proofs.Rehearsing as R
 use Rattle.rehearsal.proofs.Rehearsing.{Rehearsing}
-use borrow.Author.Rules.{rules}
 use Rattle.rehearsal.proofs.steps.rehearse.Goals.{After-done_by, After-loop-desk, After-place_of-i, Else-coming-time, Then-coming-time}
 use Rattle.rehearsal.proofs.steps.rehearse.Goals as goal
 
@@ -83,7 +81,7 @@ fresh_fronts-requires c = tasks_few c.args.plan c.requires.0.sound
 
 pub loop-desk-init : goal.loop-desk-init
 loop-desk-init c =
-    rw (c.fresh_desk-desk.ensures, c.fresh_fronts.ensures) (R.begun _ _ _ _ _ c.requires.0 c.requires.next_value)
+    rw (c.fresh_desk-desk.ensures, c.fresh_fronts.ensures) (R.begun _ _ _ _ _ c.requires.0 c.requires.1)
 
 pub going_in-run-requires : goal.going_in-run-requires
 going_in-run-requires c =
@@ -284,13 +282,13 @@ pub shape_of-out : goal.shape_of-out
 shape_of-out c = kept c.loop-desk.invariant.wrote
 
 pub shape_of-fronts : goal.shape_of-fronts
-shape_of-fronts c = c.loop-desk.invariant.fronts ∙ sym c.requires.next_value.fronts
+shape_of-fronts c = c.loop-desk.invariant.fronts ∙ sym c.requires.1.fronts
 
 pub shape_of-had : goal.shape_of-had
-shape_of-had c = c.loop-desk.invariant.long ∙ sym (ap length c.requires.next_value.had)
+shape_of-had c = c.loop-desk.invariant.long ∙ sym (ap length c.requires.1.had)
 
 pub shape_of-goings : goal.shape_of-goings
-shape_of-goings c = c.loop-desk.invariant.wide ∙ sym (ap length c.requires.next_value.goings)
+shape_of-goings c = c.loop-desk.invariant.wide ∙ sym (ap length c.requires.1.goings)
 
 pub returns : goal.returns
 returns c =
