@@ -7,25 +7,17 @@ use Rattle.rehearsal_answer.proofs.Texts.{due, input_bad, input_good}
 use borrow.Author.Rules.{rules}
 use Rattle.rehearsal_answer.proofs.answer.Goals as goal
 
--- GONE slice-bounds-put-planned-end
--- part_put_planned_end : tie.Need-slice-bounds-put-planned-end
--- part_put_planned_end c =
---     let k = c.before.before in
---     let q = k.before.before.before.before in
---     omega (arith, table_few _ q.read_day_lem.ensures.0 k.cores.given.1)
+pub slice_bounds-put_planned-end : goal.slice_bounds-put_planned-end
+slice_bounds-put_planned-end c = omega (arith, table_few _ c.in-Read.ensures.value refl)
 
--- GONE slice-bounds-put-planned-end-2
--- part_put_planned_end_2 : tie.Need-slice-bounds-put-planned-end-2
--- part_put_planned_end_2 c =
---     let k = c.before.before.before.before in
---     let q = k.before.before.before.before in
---     omega (arith, numbers_few _ q.read_day_lem.ensures.0 k.cores.given.1)
+pub slice_bounds-put_planned-end-in-Read : goal.slice_bounds-put_planned-end-in-Read
+slice_bounds-put_planned-end-in-Read c = omega (arith, numbers_few _ c.in-Read.ensures.value refl)
 
 pub returns-in-Unreadable : goal.returns-in-Unreadable
 returns-in-Unreadable c =
-    due (input_bad _ (is_unreadable _ c.read_day.ensures.value c.line-1.given.1)) c.put_refusal_within.ensures refl
+    due (input_bad _ (is_unreadable _ c.in-Unreadable.ensures.value refl)) c.put_refusal_within.ensures refl
 
 pub returns-in-Read : goal.returns-in-Read
 returns-in-Read c =
-    let e = c.read_day.ensures in
-    recast (input_good _ (is_read _ e.0 c.cores-1.given.1 _ _ (search rules) (search rules) e.1.0 e.1.1)) c.put_planned.ensures
+    let e = c.in-Read.ensures in
+    recast (input_good _ (is_read _ e.value refl _ _ (search rules) (search rules) e.table_after e.arrivals_after)) c.put_planned.ensures

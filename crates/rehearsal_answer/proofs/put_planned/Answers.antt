@@ -2,7 +2,6 @@
 use mathlib.Core.Path.{refl}
 use Rattle.day_window.proofs.Windows.{recast}
 use Rattle.rehearsal_answer.proofs.Texts.{due, table_refused, stop_above, stop_within, stoppable}
-use borrow.Author.Rules.{rules}
 use Rattle.rehearsal_answer.proofs.put_planned.Goals as goal
 
 pub returns-then-refusal-ne0 : goal.returns-then-refusal-ne0

@@ -5,8 +5,7 @@ use Rattle.rehearsal_answer.proofs.put_refusal_within.Goals as goal
 
 pub returns-then-skip-n : goal.returns-then-skip-n
 returns-then-skip-n c =
-    let w = c.put_text in
-    cut {b = w.new.0} {k = w.result} c.put_refusal-n.ensures.wrote (search rules) c.if-skip-n.true w.ensures
+    cut c.put_refusal-n.ensures.wrote (search rules) c.if-skip-n.true c.put_text.ensures
 
 pub returns-else-skip-n : goal.returns-else-skip-n
 returns-else-skip-n c = past c.put_refusal-n.ensures.wrote c.if-skip-n.false

@@ -2,7 +2,6 @@
 use mathlib.Core.Path.{refl}
 use Rattle.day_window.proofs.Windows.{recast}
 use Rattle.rehearsal_answer.proofs.Texts.{due, arrival_refused, line_left, day_follows, rehearsable}
-use borrow.Author.Rules.{rules}
 use Rattle.rehearsal_answer.proofs.put_tested.Goals as goal
 
 pub returns-then-refusal-ne0 : goal.returns-then-refusal-ne0
