@@ -4,7 +4,7 @@ use mathlib.Core.Path.{◌≡◌, sym, ap}
 use mathlib.Core.Bool.{cond}
 use mathlib.Core.List.{List, [], ◌∷◌, ◌++◌}
 use native.Mathlib.Numerals.{add-one}
-use borrow.Author.Tests.{eqb-true, eqb-false}
+use borrow.Author.Tests.{eq-eqb, ne_eqb, eqb-true, eqb-false}
 use Rattle.lists.proofs.Tests.{by_cases}
 use lib.Dec.{eqb}
 use lib.ListN.{get_or}
@@ -21,8 +21,19 @@ use Rattle.unfinished_runs.specs.Inner.{run_left}
 use Rattle.unfinished_runs.specs.Left.{left_by}
 
 -- the ticks had are those of the oldest run
-pub oldest_alone : {x : ℕ} (k had : ℕ) → (k ≡ 0 → x ≡ had) → ((k ≡ 0 → ⊥) → x ≡ 0) → x ≡ cond (eqb k 0) had 0
-oldest_alone k had e f = by_cases (eqb k 0) (λ t. rw t (e (eqb-true k 0 t))) (λ t. rw t (f (eqb-false k 0 t)))
+module _ {x : ℕ} (k had : ℕ) where
+  pub oldest : k ≡ 0 → x ≡ had → x ≡ cond (eqb k 0) had 0
+  oldest z e = rw (eq-eqb k 0 z) e
+
+  pub younger : (k ≡ 0 → ⊥) → x ≡ 0 → x ≡ cond (eqb k 0) had 0
+  younger z e = rw (ne_eqb k 0 z) e
+
+  -- either way
+  pub oldest_alone : (k ≡ 0 → x ≡ had) → ((k ≡ 0 → ⊥) → x ≡ 0) → x ≡ cond (eqb k 0) had 0
+  oldest_alone e f =
+      by_cases (eqb k 0)
+      (λ t. let z = eqb-true k 0 t in oldest z (e z))
+      (λ t. let z = eqb-false k 0 t in younger z (f z))
 
 -- a run left, with the ticks it has had
 pub run_told : (st : State) (wk : Work) (had i k : ℕ) {x : ℕ} → x ≡ cond (eqb k 0) had 0
