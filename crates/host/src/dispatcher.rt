@@ -22,24 +22,20 @@ pub(crate) struct LentStart {
     pub(crate) next: Record,
 }
 
-// The fresh record of a byte table; or the refusal, and the record as it was.
-fn start(held: Record, cores: u32, table: &[u8]) -> LentStart
-    ensures { result ≡ start_or held cores table.now }
+// The fresh record of a byte table, stored where the record stands; or the refusal, and the record as it was.
+fn start(held: &mut Record, cores: u32, table: &[u8]) -> u32
+    ensures { let a = start_or held.old cores table.now in
+        (result ≡ a.refusal) × (held.new ≡ a.next) }
 {
     let read = table_of(table);
     let numbers = read.numbers;
     let count = read.count;
     let fresh = Record::fresh(cores, &numbers[0..count]);
     let refusal = fresh.refusal;
-    let mut next = held;
     if refusal.no == 0 {
-        let new = fresh.next;
-        next = new;
+        *held = fresh.next;
     }
-    LentStart {
-        refusal: refusal.no,
-        next: next,
-    }
+    refusal.no
 }
 
 // Plans a byte table: 0 and the fresh record, or the refusal.
@@ -47,9 +43,7 @@ pub fn yagomila_start(held: &mut Record, cores: u32, table: &[u8]) -> u32
     ensures { let a = start_or held.old cores table.now in
         (result ≡ a.refusal) × (held.new ≡ a.next) }
 {
-    let after = start(*held, cores, table);
-    *held = after.next;
-    after.refusal
+    start(held, cores, table)
 }
 
 // A release at a time in plain ticks, as C hands it.
