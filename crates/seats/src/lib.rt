@@ -50,8 +50,7 @@ impl Seat {
         let state = self.state;
         let work = self.work;
         let no = state.release_tests(line, time);
-        let refused = no != 0;
-        if refused {
+        if no != 0 {
             let front = front_of(line, state, work);
             return Arrived {
                 refusal: no,

@@ -15,7 +15,7 @@ use Rattle.fronts.specs.Front.{front_of}
 use Rattle.fronts.specs.Inner.{Frontable}
 use Rattle.seats.specs.Seat.{seat, arrived_of}
 use Rattle.seats.specs.Inner.{Arrivable}
-use Rattle.seats.proofs.Seat.arrive.Goals.{Else-refused}
+use Rattle.seats.proofs.Seat.arrive.Goals.{Else-no-ne0}
 use Rattle.seats.proofs.Seat.arrive.Goals as goal
 
 module _ (ln : Line) (st : State) (wk : Work) (t n : ℕ) where
@@ -37,31 +37,31 @@ module _ (ln : Line) (st : State) (wk : Work) (t n : ℕ) where
     taken e = rw (e, p, m, z)
 
 -- it passed the tests, and so a run can be taken
-passed : (c : Else-refused) → let s = c.args in release_tests s.line s.self.state s.time.0 ≡ 0
-passed c = let left : c.release_tests-no.result ≡ 0 = c.if-refused.false in sym c.release_tests-no.ensures ∙ left
+passed : (c : Else-no-ne0) → let s = c.args in release_tests s.line s.self.state s.time.0 ≡ 0
+passed c = let left : c.release_tests-no.result ≡ 0 = c.if-no-ne0.false in sym c.release_tests-no.ensures ∙ left
 
-can : (c : Else-refused) → let s = c.args in Releasable s.line s.self.state s.time.0
+can : (c : Else-no-ne0) → let s = c.args in Releasable s.line s.self.state s.time.0
 can c = c.requires.can (passed c)
 
-pub returns-then-refused : goal.returns-then-refused
-returns-then-refused c =
+pub returns-then-no-ne0 : goal.returns-then-no-ne0
+returns-then-no-ne0 c =
     let s = c.args in
     let tests = c.release_tests-no.ensures in
-    refused s.line s.self.state s.self.work s.time.0 s.length tests c.if-refused.true c.front_of-front.ensures
+    refused s.line s.self.state s.self.work s.time.0 s.length tests c.if-no-ne0.true c.front_of-front.ensures
 
 pub with_run-taken-requires : goal.with_run-taken-requires
-with_run-taken-requires c = can (goal.at.with_run-taken-requires c).Else-refused
+with_run-taken-requires c = can (goal.at.with_run-taken-requires c).Else-no-ne0
 
 pub with_run-more-requires : goal.with_run-more-requires
-with_run-more-requires c = (can (goal.at.with_run-more-requires c).Else-refused).room
+with_run-more-requires c = (can (goal.at.with_run-more-requires c).Else-no-ne0).room
 
 pub front_of-front-requires-2 : goal.front_of-front-requires-2
 front_of-front-requires-2 c =
     let a = c.args in
-    can_show a.line a.self.state a.self.work a.time.0 a.length (passed (goal.at.front_of-front-requires-2 c).Else-refused) c.with_run-taken.ensures c.with_run-more.ensures c.requires
+    can_show a.line a.self.state a.self.work a.time.0 a.length (passed (goal.at.front_of-front-requires-2 c).Else-no-ne0) c.with_run-taken.ensures c.with_run-more.ensures c.requires
 
 pub returns : goal.returns
 returns c =
     let a = c.args in
-    let first = passed (goal.at.returns c).Else-refused in
+    let first = passed (goal.at.returns c).Else-no-ne0 in
     taken a.line a.self.state a.self.work a.time.0 a.length first c.with_run-taken.ensures c.with_run-more.ensures c.front_of-front-2.ensures
