@@ -22,13 +22,17 @@ slice_bounds-list_table-end c = part_within c.args.table.now c.table_of-held.res
 pub answer_of-requires : goal.answer_of-requires
 answer_of-requires c =
     let h : c.list_table-listed.result ≡ table_listed c.args.cores (held_of c.args.table.now) (length c.args.buf.now) =
-    c.list_table-listed.ensures.value ∙ ap (λ (xs : List ℕ). table_listed c.args.cores xs (length c.args.buf.now)) (part c.args.table.now c.table_of-held.result c.table_of-held.ensures) in
+    c.list_table-listed.ensures.value
+    ∙ ap (λ (xs : List ℕ). table_listed c.args.cores xs (length c.args.buf.now))
+    (part c.args.table.now c.table_of-held.result c.table_of-held.ensures) in
     omega (arith, ap (λ (x : Listed). x.length) h, table_length c.args.cores (held_of c.args.table.now) (length c.args.buf.now))
 
 pub returns-clause-value : goal.returns-clause-value
 returns-clause-value c =
     let h : c.list_table-listed.result ≡ table_listed c.args.cores (held_of c.args.table.now) (length c.args.buf.now) =
-    c.list_table-listed.ensures.value ∙ ap (λ (xs : List ℕ). table_listed c.args.cores xs (length c.args.buf.now)) (part c.args.table.now c.table_of-held.result c.table_of-held.ensures) in
+    c.list_table-listed.ensures.value
+    ∙ ap (λ (xs : List ℕ). table_listed c.args.cores xs (length c.args.buf.now))
+    (part c.args.table.now c.table_of-held.result c.table_of-held.ensures) in
     to_z-of_z w64 c.answer_of.result (search rules)
     ∙ c.answer_of.ensures ∙ ap answered h ∙ listed_same c.args.cores c.args.table.now (length c.args.buf.now)
 

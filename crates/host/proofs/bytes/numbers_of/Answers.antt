@@ -5,8 +5,12 @@ use Rattle.host.proofs.Numbers.{step, finish}
 use Rattle.host.proofs.bytes.numbers_of.Goals as goal
 
 pub loop-k-preserved : goal.loop-k-preserved
-loop-k-preserved c =
-    (refl, omega arith, step c.args.bytes.now c.loop-k.numbers c.loop-k.k c.number32-x.result c.loop-k.invariant.2 (omega arith) (omega (arith, c.requires)) c.number32-x.ensures)
+loop-k-preserved c = (
+  refl,
+  omega arith,
+  step c.args.bytes.now c.loop-k.numbers c.loop-k.k c.number32-x.result c.loop-k.invariant.2 (omega arith) (omega (arith, c.requires))
+      c.number32-x.ensures,
+)
 
 pub returns : goal.returns
 returns c = finish c.args.bytes.now c.loop-k.numbers c.loop-k.k c.loop-k.invariant.2 (omega arith) (omega (arith, c.requires))

@@ -38,5 +38,8 @@ returns-then-refused-eq0 c =
     )
 
 pub returns-else-refused-eq0 : goal.returns-else-refused-eq0
-returns-else-refused-eq0 c =
-    (list_refused c.args.held c.args.buf.now c.args.len c.list-listed.ensures.value (to_z-of_z w64 c.args.len (search rules)) c.if-refused-eq0.false, c.list-listed.ensures.buf_after)
+returns-else-refused-eq0 c = (
+  list_refused c.args.held c.args.buf.now c.args.len c.list-listed.ensures.value (to_z-of_z w64 c.args.len (search rules))
+      c.if-refused-eq0.false,
+  c.list-listed.ensures.buf_after,
+)
