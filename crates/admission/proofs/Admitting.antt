@@ -36,10 +36,12 @@ input_decides m xs f e n = decides f (input_test m xs)
 
 -- a table that is taken passes all tests
 pub passed : (m : ℕ) (xs : List ℕ) → (plan_refusal m xs).no ≡ 0
-    → ((input_test m xs).no ≡ 0) × ((period_test (period_of (periods xs))).no ≡ 0) × ((weights_test m (common (periods xs)) (weights (common (periods xs)) xs)).no ≡ 0)
+    → ((input_test m xs).no ≡ 0) × ((period_test (period_of (periods xs))).no ≡ 0)
+    × ((weights_test m (common (periods xs)) (weights (common (periods xs)) xs)).no ≡ 0)
 unfolding plan_refusal
 passed m xs e =
-    let one = neither (input_test m xs) (period_test (period_of (periods xs)) or_else weights_test m (common (periods xs)) (weights (common (periods xs)) xs)) e in
+    let one = neither (input_test m xs) (period_test (period_of (periods xs)) or_else weights_test m (common (periods xs))
+    (weights (common (periods xs)) xs)) e in
     let two = neither (period_test (period_of (periods xs))) (weights_test m (common (periods xs)) (weights (common (periods xs)) xs)) one.1 in
     (one.0, two.0, two.1)
 

@@ -39,6 +39,7 @@ module _ (ws : List ℕ) (l : length ws ≡ tasks_limit) where
   }
 
   -- both passes over them give the shares
-  pub shares_are : (room : List ℕ) → length room ≡ cores_limit → assign ws (from (ordered_of ws) 0) room (empty_rows tasks_limit cores_limit) ≡ shares_of ws room
+  pub shares_are : (room : List ℕ) → length room ≡ cores_limit → assign ws (from (ordered_of ws) 0) room (empty_rows tasks_limit cores_limit)
+      ≡ shares_of ws room
   unfolding ordered_of shares_of
   shares_are room k = rw (take_at (order ws) (zeros (tasks_limit - parts ws)) (parts ws) (order_length ws), weigh_order ws, l, k)

@@ -329,7 +329,11 @@ module _ (pl : Plan) (xs : List ℕ) (f : Fine pl xs) where
       nobody = λ i l. zeros_at i;
     },
     λ i l. let h = small i l in
-        rw (get_or-replicate tasks_limit i fresh_state no_state h, get_or-replicate tasks_limit i fresh_work no_work h, get_or-replicate {A = ℕ} tasks_limit i 0 0 h)
+        rw (
+          get_or-replicate tasks_limit i fresh_state no_state h,
+          get_or-replicate tasks_limit i fresh_work no_work h,
+          get_or-replicate {A = ℕ} tasks_limit i 0 0 h,
+        )
         rest_fresh,
   )
     where

@@ -122,7 +122,8 @@ module _ (pl : Plan) (xs : List ℕ) (f : Fine pl xs) (t v : ℕ) (ahead : t < v
             go (suc j) e = omega (arith, task_in (box_of pl t d) s.good j (choice_waits pl t d p j s.good e).0, s.had)
 
     -- no finish of a choice
-    pub jump_finishes : (p : ℕ) → p < pl.cores → 0 < choice_at pl t d p → had_of d (choice_at pl t d p - 1) + jump ≤ length_at (work_of d (choice_at pl t d p - 1)) 0
+    pub jump_finishes : (p : ℕ) → p < pl.cores → 0 < choice_at pl t d p
+        → had_of d (choice_at pl t d p - 1) + jump ≤ length_at (work_of d (choice_at pl t d p - 1)) 0
     jump_finishes = quiet.lasts
 
     -- the desk there, before its finishes

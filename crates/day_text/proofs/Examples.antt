@@ -23,7 +23,8 @@ pub readable :
     × Says "1\n2 5\nrehearse 0\n" (rehearses 1 (2 ∷ 5 ∷ []) 0 [] false)
     × Says "1\nrehearse 999999999999999\n999999999999999 0 0\n" (rehearses 1 [] 999999999999999 (999999999999999 ∷ 0 ∷ 0 ∷ []) false)
 unfolding day_of after_table after_stop stop_place stop_here is_read stop_line stop_after first_place word_at field_at followed_by number_at first_of digits_of digit_of text_of
-    after_cores table_from unreadable_from numbers_from then_tasks pair_end pair_at first_after second_after arrival_line from_time after_time arrivals_from then_later
+    after_cores table_from unreadable_from numbers_from then_tasks pair_end pair_at first_after second_after arrival_line from_time after_time
+    arrivals_from then_later
     place_after then_place
 readable = (refl, refl, refl)
 
@@ -35,7 +36,8 @@ pub left :
     × Says "1\n2 5\nrehearse 9\n\n0 1 2\n" (rehearses 1 (2 ∷ 5 ∷ []) 9 [] true)
     × Says "1\n2 5\nrehearse 9\n0 1 2\nrehearse 9\n" (rehearses 1 (2 ∷ 5 ∷ []) 9 (0 ∷ 1 ∷ 2 ∷ []) true)
 unfolding day_of after_table after_stop stop_place stop_here is_read stop_line stop_after first_place word_at field_at followed_by number_at first_of digits_of digit_of text_of
-    after_cores table_from unreadable_from numbers_from then_tasks pair_end pair_at first_after second_after arrival_line from_time after_time arrivals_from then_later
+    after_cores table_from unreadable_from numbers_from then_tasks pair_end pair_at first_after second_after arrival_line from_time after_time
+    arrivals_from then_later
     place_after then_place
 left = (refl, refl, refl, refl, refl)
 
@@ -48,6 +50,7 @@ pub unreadables :
     × Says "1\n2 5\n rehearse 9\n" (unreadable 3)
     × Says "rehearse 9\n0 1 2\n" (unreadable 0)
 unfolding day_of after_table after_stop stop_place stop_here is_read stop_line stop_after first_place word_at field_at followed_by number_at first_of digits_of digit_of text_of
-    after_cores table_from unreadable_from numbers_from then_tasks pair_end pair_at first_after second_after arrival_line from_time after_time arrivals_from then_later
+    after_cores table_from unreadable_from numbers_from then_tasks pair_end pair_at first_after second_after arrival_line from_time after_time
+    arrivals_from then_later
     place_after then_place
 unreadables = (refl, refl, refl, refl, refl, refl)

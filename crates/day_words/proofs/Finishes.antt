@@ -127,7 +127,8 @@ module _ (pl : Plan) (xs : List ℕ) where
         some : 0 < g
         some = ltb-true 0 g (and_left (ltb 0 g) (eqb (had_of e (g - 1)) (length_at (work_of e (g - 1)) 0)) y)
 
-        go : (c : ℕ) → (run_of (end_to pl xs t p) p).task ≡ c → FirstHad pl xs stop p (run_of (end_to pl xs t p) p).task (run_of (end_to pl xs t p) p).run (suc t)
+        go : (c : ℕ) → (run_of (end_to pl xs t p) p).task ≡ c
+            → FirstHad pl xs stop p (run_of (end_to pl xs t p) p).task (run_of (end_to pl xs t p) p).run (suc t)
         go zero z = absurd (omega (arith, some, z))
         go (suc i) on =
             let u : t < clock_limit = omega (arith, l, upto) in

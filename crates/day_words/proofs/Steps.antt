@@ -96,7 +96,8 @@ module _ (pl : Plan) (xs : List ℕ) (t k : ℕ) (d : Desk) (s : Stands pl t d) 
 
 -- what core n's finish does to task i
 pub data Finish (t n : ℕ) (d : Desk) (i : ℕ) : Type 0 where
-  one : (run_of d n).task ≡ suc i → done_of d (run_of d n).task ≡ true → had_of d i ≡ length_at (work_of d i) 0 → state_of (ends t n d) i ≡ without_run (state_of d i)
+  one : (run_of d n).task ≡ suc i → done_of d (run_of d n).task ≡ true → had_of d i ≡ length_at (work_of d i) 0 → state_of (ends t n d) i
+      ≡ without_run (state_of d i)
       → work_of (ends t n d) i ≡ without_length (work_of d i) → had_of (ends t n d) i ≡ 0 → Finish t n d i
   stays : ((run_of d n).task ≡ suc i → done_of d (run_of d n).task ≡ false) → state_of (ends t n d) i ≡ state_of d i → work_of (ends t n d) i ≡ work_of d i
       → had_of (ends t n d) i ≡ had_of d i → Finish t n d i

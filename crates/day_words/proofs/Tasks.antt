@@ -36,7 +36,8 @@ use Rattle.day_words.proofs.Told.{Told, told_fresh, told_came, told_ended}
 
 module _ (pl : Plan) (xs : List ℕ) (f : Fine pl xs) where
   -- an arrival's acceptance is the model's
-  pub accepted_is : (t k : ℕ) → t < clock_limit → k < arrivals_in xs → arrival_time xs k ≡ t → accepted pl xs k ≡ eqb (arrival_no pl xs t k (came_to pl xs t k)) 0
+  pub accepted_is : (t k : ℕ) → t < clock_limit → k < arrivals_in xs → arrival_time xs k ≡ t → accepted pl xs k
+      ≡ eqb (arrival_no pl xs t k (came_to pl xs t k)) 0
   unfolding accepted
   accepted_is t k l h e =
       let s = is_came pl xs f t l k (omega (arith, h)) in

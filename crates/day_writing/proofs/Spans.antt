@@ -62,7 +62,8 @@ module _ (xs : List ℕ) (ss : List Seen) (t n : ℕ) where
         ∙ ap (λ (o : Going). said k ++ span_end k (get_or (goings_in xs) k no_going) o.task o.run t) has
         ∙ spans_more (goings_in xs) (goings_of (goings_in xs) ss t n) t k
 
-    next_gone : {g h : Going} {ys zs : List ℕ} → ys ≡ gone_on xs ss t k → g ≡ going_at ys k → h ≡ goes_at k g → zs ≡ put_going ys k h → zs ≡ gone_on xs ss t (k + 1)
+    next_gone : {g h : Going} {ys zs : List ℕ} → ys ≡ gone_on xs ss t k → g ≡ going_at ys k → h ≡ goes_at k g → zs ≡ put_going ys k h → zs
+        ≡ gone_on xs ss t (k + 1)
     unfolding gone_on
     next_gone e f q z = z ∙ rw (q, f, e, add-one k) refl
 

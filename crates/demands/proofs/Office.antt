@@ -146,7 +146,8 @@ no_cores s h = (Programs.by_none named_listing s h, Programs.by_none table_lines
 module _ (m : ℕ) (s : List ℕ) (small : Small m) where
   -- a sheet that is refused is answered by its refusal's line
   pub refusal_written : ((plan_sheet m s).refusal.no ≡ 0 → ⊥)
-      → (sheet_text (cores_written m ++ s) ≡ refusal_text (plan_sheet m s).refusal) × (table_text (cores_written m ++ s) ≡ refusal_text (plan_sheet m s).refusal)
+      → (sheet_text (cores_written m ++ s) ≡ refusal_text (plan_sheet m s).refusal)
+      × (table_text (cores_written m ++ s) ≡ refusal_text (plan_sheet m s).refusal)
   unfolding sheet_text table_text
   refusal_written n = (Programs.by_refusal named_listing m s small n, Programs.by_refusal table_lines m s small n)
 

@@ -52,7 +52,13 @@ first_there pl k i h =
 
 -- it is lower there and nowhere else
 pub lower_at : (row : List ℕ) (p : ℕ) → 1 < parts row → p ≡ first_core row → lower p row ≡ true
-lower_at row p h e = rw (e, lt-ltb 1 (parts row) h, lt-ltb 0 (get_or row (first_core row) 0) (first_some row h), eq-eqb (first_core row) (first_core row) refl) refl
+lower_at row p h e = rw (
+  e,
+  lt-ltb 1 (parts row) h,
+  lt-ltb 0 (get_or row (first_core row) 0) (first_some row h),
+  eq-eqb (first_core row)
+      (first_core row) refl,
+) refl
 
 lower_off : (row : List ℕ) (p : ℕ) → (p ≡ first_core row → ⊥) → lower p row ≡ false
 lower_off row p h = rw (ne_eqb (first_core row) p (λ e. h (sym e))) (and-false (moves_on p row))

@@ -32,6 +32,7 @@ module _ (m : ℕ) (xs : List ℕ) where
       (λ e. rw e (omega arith))
 
   -- and in a buffer of so many bytes a table that is taken is never refused by 14
-  pub table_whole : (plan_refusal m xs).no ≡ 0 → (room : ℕ) → listing_limit ≤ room → table_listed m xs room ≡ listed_whole (length (listing_text (plan_of m xs).plan))
+  pub table_whole : (plan_refusal m xs).no ≡ 0 → (room : ℕ) → listing_limit ≤ room → table_listed m xs room
+      ≡ listed_whole (length (listing_text (plan_of m xs).plan))
   unfolding table_listed plan_listed
   table_whole t room h = rw (t, le-leb (length (listing_text (plan_of m xs).plan)) room (omega (arith, taken_length t)))

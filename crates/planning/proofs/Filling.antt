@@ -40,7 +40,8 @@ pub step : (xs ws : List ℕ) (rows : List (List ℕ)) (lns : List Line) (k : �
     → Filling xs ws rows (set lns k (line (get_or xs (2 * k) 0) (get_or xs (2 * k + 1) 0) (get_or ws k 0) (get_or rows k []))) (k + 1)
 step xs ws rows lns k f h a b m =
     let here : lines_of (drop (2 * k) xs) (drop k ws) (drop k rows)
-    ≡ line (get_or xs (2 * k) 0) (get_or xs (2 * k + 1) 0) (get_or ws k 0) (get_or rows k []) ∷ lines_of (drop (2 * (k + 1)) xs) (drop (k + 1) ws) (drop (k + 1) rows) =
+    ≡ line (get_or xs (2 * k) 0) (get_or xs (2 * k + 1) 0) (get_or ws k 0) (get_or rows k []) ∷ lines_of (drop (2 * (k + 1)) xs) (drop (k + 1) ws)
+    (drop (k + 1) rows) =
     rw (pair_drop xs k h, drop-cons ws k 0 a, drop-cons rows k [] b, ← (add-one k)) in
     next empty_line tasks_limit (lines_of xs ws rows) lns (lines_of (drop (2 * (k + 1)) xs) (drop (k + 1) ws) (drop (k + 1) rows)) k
     (line (get_or xs (2 * k) 0) (get_or xs (2 * k + 1) 0) (get_or ws k 0) (get_or rows k [])) (rw here at f) m

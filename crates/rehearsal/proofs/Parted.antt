@@ -70,7 +70,8 @@ fresh_at ls n = front_of (get_or ls n no_line) fresh_state fresh_work
 
 module _ (xs : List ℕ) where
   -- one task more
-  pub fresh_more : (ls : List Line) (n : ℕ) {ys : List ℕ} → ys ≡ fresh_fronts xs ls n → {x : Front} → x ≡ front_of (get_or ls n no_line) written_state written_work
+  pub fresh_more : (ls : List Line) (n : ℕ) {ys : List ℕ} → ys ≡ fresh_fronts xs ls n → {x : Front} → x
+      ≡ front_of (get_or ls n no_line) written_state written_work
       → put_front ys n x ≡ fresh_fronts xs ls (n + 1)
   unfolding fresh_fronts fresh_state fresh_work
   fresh_more ls n e q = rw (add-one n, ← e, q)

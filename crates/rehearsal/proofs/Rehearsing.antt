@@ -158,7 +158,11 @@ fresh_holds pl xs few {fs} b = record {
       ∙ rw (get_or-replicate tasks_limit i fresh_state no_state l, get_or-replicate tasks_limit i fresh_work no_work l) refl;
   front = λ i l.
       fresh_front fs b.fronts pl.lines pl.count i l few
-      ∙ rw (get_or-replicate tasks_limit i fresh_state no_state (omega (arith, l, few)), get_or-replicate tasks_limit i fresh_work no_work (omega (arith, l, few))) refl;
+      ∙ rw (
+        get_or-replicate tasks_limit i fresh_state no_state (omega (arith, l, few)),
+        get_or-replicate tasks_limit i fresh_work no_work
+            (omega (arith, l, few)),
+      ) refl;
   had = b.had;
   going = ap goings_in b.goings ∙ goings_none;
 }

@@ -43,7 +43,8 @@ job_long j rest =
 
 module _ (s : List ℕ) where
   -- the first line
-  pub tick_written_lem : (tick : ℕ) (rest : List ℕ) → tick < nanos_bound → s ≡ tick_written tick ++ rest → (a : ℕ) × (tick_line s ≡ Value tick a) × (drop a s ≡ rest)
+  pub tick_written_lem : (tick : ℕ) (rest : List ℕ) → tick < nanos_bound → s ≡ tick_written tick ++ rest → (a : ℕ) × (tick_line s ≡ Value tick a)
+      × (drop a s ≡ rest)
   tick_written_lem tick rest h e =
       let f = field_written nanos_bound s newline 0 tick rest h (inl (omega arith)) (e ∙ tick_then tick rest) in
       (0 + length (decimal_of tick) + 1, f.0, f.1)

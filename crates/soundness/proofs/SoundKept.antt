@@ -104,7 +104,8 @@ module _ (pl : Plan) (long : PlanShaped pl) (s : plan_sound pl ≡ true) where
           within = leb-true (column p tab) pl.common (and_left load only w);
           few = leb-true (how_many (moves_on p) tab) 2 (and_right a b ab);
           first = λ t. eqb-true (how_many (lower p) tab) 1
-              (first_says (eqb (how_many (moves_on p) tab) 2) (eqb (how_many (lower p) tab) 1) (and_right (a && b) c abc) (eq-eqb (how_many (moves_on p) tab) 2 t));
+              (first_says (eqb (how_many (moves_on p) tab) 2) (eqb (how_many (lower p) tab) 1) (and_right (a && b) c abc)
+              (eq-eqb (how_many (moves_on p) tab) 2 t));
           guarded = leb-true (top (moves_on p) tab) (top (fixed_on p) tab) (and_right (a && b && c) d e);
         },
         λ m. eqb-true (column p tab) 0 (rw (le-ltb p pl.cores m) at (and_right load only w)),

@@ -23,12 +23,14 @@ loop-k-init c = start _ _ _
 pub returns-then-no-ne0 : goal.returns-then-no-ne0
 returns-then-no-ne0 c =
     let h = c.loop-k.invariant in
-    refused _ _ _ _ _ h c.loop-k-test.true (tests_are _ _ _ _ _ h (cost_is (goal.at.returns-then-no-ne0 c).Joined-i-lt-TASKS) c.arrival_tests-no.ensures) c.if-no-ne0.true
+    refused _ _ _ _ _ h c.loop-k-test.true (tests_are _ _ _ _ _ h
+    (cost_is (goal.at.returns-then-no-ne0 c).Joined-i-lt-TASKS) c.arrival_tests-no.ensures) c.if-no-ne0.true
 
 pub loop-k-preserved : goal.loop-k-preserved
 loop-k-preserved c =
     let h = c.loop-k.invariant in
-    more _ _ _ _ _ h c.loop-k-test.true (tests_are _ _ _ _ _ h (cost_is (goal.at.loop-k-preserved c).Joined-i-lt-TASKS) c.arrival_tests-no.ensures ∙ c.if-no-ne0.false) refl
+    more _ _ _ _ _ h c.loop-k-test.true (tests_are _ _ _ _ _ h (cost_is (goal.at.loop-k-preserved c).Joined-i-lt-TASKS) c.arrival_tests-no.ensures
+    ∙ c.if-no-ne0.false) refl
 
 pub returns : goal.returns
 returns c = all _ _ _ _ _ c.loop-k.invariant c.loop-k-test.false

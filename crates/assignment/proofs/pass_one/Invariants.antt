@@ -11,7 +11,8 @@ use Rattle.assignment.proofs.pass_one.Given as goal
 abbrev pub invariant-loop-i : goal.invariant-loop-i
 invariant-loop-i l =
     (length (nums l.left.shares) ≡ cores_limit)
-    × (assign (nums l.weights) (from l.order l.i) (nums l.left.shares) (rows_of l.table) ≡ assign (nums l.weights) (from l.order l.initial.i) (nums l.initial.left.shares) (rows_of l.initial.table))
+    × (assign (nums l.weights) (from l.order l.i) (nums l.left.shares) (rows_of l.table)
+    ≡ assign (nums l.weights) (from l.order l.initial.i) (nums l.initial.left.shares) (rows_of l.initial.table))
 
 abbrev pub decreases-loop-i : goal.decreases-loop-i
 decreases-loop-i l = l.order.count - l.i

@@ -66,7 +66,8 @@ loop-need-smaller-then-need-gt0 c = omega (arith, goes (goal.at.loop-need-smalle
 pub loop-need-preserved-then-need-gt0 : goal.loop-need-preserved-then-need-gt0
 loop-need-preserved-then-need-gt0 c =
     let at = c.loop-need in
-    rw (nums_set at.row, nums_set at.left) (next _ _ _ _ _ _ _ _ at.invariant _ _ _ (steps (goal.at.loop-need-preserved-then-need-gt0 c).After-rest-need) (omega arith))
+    rw (nums_set at.row, nums_set at.left) (next _ _ _ _ _ _ _ _ at.invariant _ _ _
+    (steps (goal.at.loop-need-preserved-then-need-gt0 c).After-rest-need) (omega arith))
 
 pub loop-need-smaller : goal.loop-need-smaller
 loop-need-smaller c = omega (arith, goes (goal.at.loop-need-smaller c).In-loop-need)

@@ -62,7 +62,8 @@ module _ (bytes : List ℕ) (whole : length bytes % 8 ≡ 0) where
 
   module _ (k : ℕ) (h : k < length bytes / 8) where
     -- a task's cost
-    pub cost_is : cost (table_in bytes) k ≡ number (get_or bytes (8 * k) 0) (get_or bytes (8 * k + 1) 0) (get_or bytes (8 * k + 2) 0) (get_or bytes (8 * k + 3) 0)
+    pub cost_is : cost (table_in bytes) k ≡ number (get_or bytes (8 * k) 0) (get_or bytes (8 * k + 1) 0) (get_or bytes (8 * k + 2) 0)
+        (get_or bytes (8 * k + 3) 0)
     cost_is = rw table_is (number_at bytes (2 * k) (omega arith) ∙ ap (number32_at bytes) (omega arith))
 
     -- and its period

@@ -39,5 +39,6 @@ loop-core-preserved c =
     let inv = c.loop-core.invariant in (
       omega arith,
       grind (arith, length-set {A = ℕ}),
-      ran_next (goings_in s.goings.now) s.more s.had.now c.loop-core.core inv.2 (same (goal.at.loop-core-preserved c).In-loop-core) (λ h. grind arith) (λ h. grind arith),
+      ran_next (goings_in s.goings.now) s.more s.had.now c.loop-core.core inv.2 (same (goal.at.loop-core-preserved c).In-loop-core) (λ h. grind arith)
+          (λ h. grind arith),
     )

@@ -58,8 +58,10 @@ loop-i-preserved c =
       omega arith,
       elim c.if-sees.branch [ then-sees w ↦ rw w.seen-is (search rules) | else-sees w ↦ rw w.seen-is inv.1 ],
       elim c.if-sees.branch [
-        | then-sees w ↦ w.seen-is ∙ seen_more fs s.time.0 c.loop-i.i (own (goal.at.loop-i-preserved c).After-front_in-front) s.had.now inv.2 c.sees.ensures w.if-sees.true w.better.ensures
-        | else-sees w ↦ w.seen-is ∙ seen_less fs s.time.0 c.loop-i.i (own (goal.at.loop-i-preserved c).After-front_in-front) s.had.now inv.2 c.sees.ensures w.if-sees.false
+        | then-sees w ↦ w.seen-is ∙ seen_more fs s.time.0 c.loop-i.i
+            (own (goal.at.loop-i-preserved c).After-front_in-front) s.had.now inv.2 c.sees.ensures w.if-sees.true w.better.ensures
+        | else-sees w ↦ w.seen-is ∙ seen_less fs s.time.0 c.loop-i.i
+            (own (goal.at.loop-i-preserved c).After-front_in-front) s.had.now inv.2 c.sees.ensures w.if-sees.false
       ],
       next_more fs s.time.0 c.loop-i.i (own (goal.at.loop-i-preserved c).After-front_in-front) s.until.0 inv.3 c.ahead-next.ensures,
     )

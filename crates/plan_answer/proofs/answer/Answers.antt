@@ -19,6 +19,7 @@ returns-in-Unreadable c =
 pub returns-in-Read : goal.returns-in-Read
 returns-in-Read c =
     record {
-      wrote = recast (text_read _ _ (is_read _ c.read_text.ensures.value c.in-Read.is _ (search rules) c.read_text.ensures.table_after)) c.put_table.ensures.wrote;
+      wrote = recast (text_read _ _ (is_read _ c.read_text.ensures.value c.in-Read.is _ (search rules) c.read_text.ensures.table_after))
+          c.put_table.ensures.wrote;
       upper_bound = search rules;
     }

@@ -12,8 +12,11 @@ use Rattle.sheet_writing.proofs.put_sheet.Goals as goal
 
 -- at each turn of the loop few numbers are left behind, and few bytes
 known : (c : At-loop-i) → (c.loop-i.i ≤ 2 * tasks_limit) × (c.loop-i.end ≤ 21 + 30 * c.loop-i.i)
-known c =
-    (omega (arith, c.loop-i.invariant.within, c.requires), omega (arith, c.loop-i.invariant.short, c.put_byte-end.ensures.end, c.put_number-first.ensures.upper_bound))
+known c = (
+  omega (arith, c.loop-i.invariant.within, c.requires),
+  omega
+      (arith, c.loop-i.invariant.short, c.put_byte-end.ensures.end, c.put_number-first.ensures.upper_bound),
+)
 
 -- the name that is read lies in them
 named : (c : Else-next-eq0) → Parted c.args.names.now c.loop-i.at c.name_end-next.result

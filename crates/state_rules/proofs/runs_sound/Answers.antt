@@ -77,7 +77,8 @@ loop-k-preserved c =
     let latest = latest_is ln c.due_after-after.ensures in
     let keeps : run_rule ln st k ≡ true =
     elim c.if-k-live.branch [
-      | then-k-live+else-not-placed+else-not-sound w ↦ unfinished ln st k latest w.if-k-live.true (sym w.placed.ensures ∙ w.if-not-placed.false) ∙ sym w.sound.ensures ∙ w.if-not-sound.false
+      | then-k-live+else-not-placed+else-not-sound w ↦ unfinished ln st k latest w.if-k-live.true (sym w.placed.ensures ∙ w.if-not-placed.false)
+          ∙ sym w.sound.ensures ∙ w.if-not-sound.false
       | else-k-live+else-not-empty w ↦ past ln st k w.if-k-live.false ∙ sym w.empty.ensures ∙ w.if-not-empty.false
     ] in
     (omega arith, all_more _ _ c.loop-k.invariant.1 (rule_by_lem ln st k latest ∙ keeps))

@@ -45,8 +45,12 @@ loop-k-smaller c = omega arith
 
 pub loop-k-preserved : goal.loop-k-preserved
 loop-k-preserved c =
-    let l = c.loop-k in
-    (omega arith, refl, sym (tasks_go c.args.table.now l.k (omega arith) c.task_test-fault.result c.task_test-fault.ensures c.if-fault-ne0.false) ∙ l.invariant.2)
+    let l = c.loop-k in (
+      omega arith,
+      refl,
+      sym (tasks_go c.args.table.now l.k (omega arith) c.task_test-fault.result c.task_test-fault.ensures c.if-fault-ne0.false)
+          ∙ l.invariant.2,
+    )
 
 pub returns : goal.returns
 returns c =

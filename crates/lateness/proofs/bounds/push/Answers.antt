@@ -12,7 +12,8 @@ overflow_add-result c = omega (arith, c.at-reach.ensures)
 pub overflow_mul-result : goal.overflow_mul-result
 overflow_mul-result c =
     let m = c.args.mover in
-    let pushed : m.share.0 * (c.at-reach.result + m.period.0) ≡ push_by c.args.reaches.now m = ap (λ (r : ℕ). m.share.0 * (r + m.period.0)) c.at-reach.ensures in
+    let pushed : m.share.0 * (c.at-reach.result + m.period.0) ≡ push_by c.args.reaches.now m =
+    ap (λ (r : ℕ). m.share.0 * (r + m.period.0)) c.at-reach.ensures in
     omega (arith, pushed, push_le c.requires.1)
 
 pub returns : goal.returns

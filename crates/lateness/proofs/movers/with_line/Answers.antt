@@ -56,7 +56,8 @@ loop-p-preserved c =
     elim c.match-standing.branch [
       | in-Upper w ↦
           rw w.movers-is
-          (front_set (λ q. upper q row) (λ q. mover_on q a.line) old p at.movers at.invariant h _ (w.mover_on-mover.ensures ∙ on) (up ∙ ap is_upper w.in-Upper.is))
+          (front_set (λ q. upper q row) (λ q. mover_on q a.line) old p at.movers at.invariant h _ (w.mover_on-mover.ensures ∙ on)
+          (up ∙ ap is_upper w.in-Upper.is))
       | in_default w ↦
           rw w.movers-is
           (front_skip (λ q. upper q row) (λ q. mover_on q a.line) old p at.movers at.invariant h (up ∙ but_upper how.result w.in_default.not-Upper))

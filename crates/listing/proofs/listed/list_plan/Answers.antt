@@ -30,7 +30,13 @@ put_plan-length-requires c =
 pub returns-then-buf-ge-LISTING : goal.returns-then-buf-ge-LISTING
 returns-then-buf-ge-LISTING c =
     let w = c.put_plan-length.ensures.wrote in
-    let a = written c.args.plan w w.end (omega (arith, w.end, c.if-buf-ge-LISTING.true, listing_length c.args.plan (shaped (goal.at.returns-then-buf-ge-LISTING c).Start) c.requires)) in
+    let a = written c.args.plan w w.end (omega (
+      arith,
+      w.end,
+      c.if-buf-ge-LISTING.true,
+      listing_length c.args.plan
+          (shaped (goal.at.returns-then-buf-ge-LISTING c).Start) c.requires,
+    )) in
     record { value = a.0; buf_after = a.1 }
 
 pub put_plan-need-requires : goal.put_plan-need-requires

@@ -16,5 +16,6 @@ list_plan-requires c =
 pub returns : goal.returns
 returns c =
     let s = c.args in
-    let a = table_taken s.cores s.table.now s.buf.now c.plan_of-planned.result c.plan_of-planned.ensures c.if-refusal-ne0.false c.list_plan.ensures.value c.list_plan.ensures.buf_after in
+    let a = table_taken s.cores s.table.now s.buf.now c.plan_of-planned.result c.plan_of-planned.ensures c.if-refusal-ne0.false
+    c.list_plan.ensures.value c.list_plan.ensures.buf_after in
     record { value = a.0; buf_after = a.1 }

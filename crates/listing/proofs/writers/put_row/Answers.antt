@@ -22,4 +22,8 @@ returns-else-moves_by c =
     let n = c.parts_of-parts in
     let row = nums c.args.shares in
     let h : parts row ≤ 1 = omega (arith, ltb-false 1 n.result (sym c.moves_by.ensures ∙ c.if-moves_by.false), n.ensures) in
-    record { wrote = recast (row_fixed row h) (then c.put_text-next-else-moves_by.ensures c.put_shares-else-moves_by.ensures.wrote); upper_bound = search rules }
+    record {
+      wrote = recast (row_fixed row h) (then c.put_text-next-else-moves_by.ensures c.put_shares-else-moves_by.ensures.wrote);
+      upper_bound =
+          search rules;
+    }

@@ -63,8 +63,20 @@ loop-left-preserved c =
     let k : l.p < length ss = omega (arith, n, h) in
     let w = recast (cores_more ss l.p) (then l.invariant.2 c.put_share-next.ensures.wrote) in
     elim c.if-s-gt0.branch [
-      | then-s-gt0 t ↦ (omega (arith, h), omega (arith, t.left-is, l.invariant.1, part_less ss l.p k t.if-s-gt0.true), w, search rules, c.put_share-next.auto.buf ∙ l.invariant.4)
-      | else-s-gt0 t ↦ (omega (arith, h), omega (arith, t.left-is, l.invariant.1, part_same ss l.p k t.if-s-gt0.false), w, search rules, c.put_share-next.auto.buf ∙ l.invariant.4)
+      | then-s-gt0 t ↦ (
+        omega (arith, h),
+        omega (arith, t.left-is, l.invariant.1, part_less ss l.p k t.if-s-gt0.true),
+        w,
+        search rules,
+        c.put_share-next.auto.buf ∙ l.invariant.4,
+      )
+      | else-s-gt0 t ↦ (
+        omega (arith, h),
+        omega (arith, t.left-is, l.invariant.1, part_same ss l.p k t.if-s-gt0.false),
+        w,
+        search rules,
+        c.put_share-next.auto.buf ∙ l.invariant.4,
+      )
     ]
 
 pub returns-clause-wrote : goal.returns-clause-wrote

@@ -19,8 +19,10 @@ returns-then-text-place-clause-wrote c =
 
 pub returns-then-bad-ne0-clause-wrote : goal.returns-then-bad-ne0-clause-wrote
 returns-then-bad-ne0-clause-wrote c =
-    recast (bad_call_lem _ _ _ _ c.if-text-place.false (first_line (goal.at.returns-then-bad-ne0-clause-wrote c).After-first_bad-bad) c.if-bad-ne0.true) c.put_unreadable-then-bad-ne0.ensures.wrote
+    recast (bad_call_lem _ _ _ _ c.if-text-place.false (first_line (goal.at.returns-then-bad-ne0-clause-wrote c).After-first_bad-bad)
+    c.if-bad-ne0.true) c.put_unreadable-then-bad-ne0.ensures.wrote
 
 pub returns-clause-wrote : goal.returns-clause-wrote
 returns-clause-wrote c =
-    recast (good_calls _ _ _ _ c.if-text-place.false (first_line (goal.at.returns-clause-wrote c).After-first_bad-bad) c.if-bad-ne0.false) c.play_taken.ensures.wrote
+    recast (good_calls _ _ _ _ c.if-text-place.false (first_line (goal.at.returns-clause-wrote c).After-first_bad-bad) c.if-bad-ne0.false)
+    c.play_taken.ensures.wrote

@@ -24,7 +24,8 @@ pub returns : goal.returns
 returns c =
     record {
       windowed =
-          texts _ _ _ c.requires _ _ _ c.rehearse-desk.ensures.stood c.rehearse-desk.ensures.windowed c.put_spans-spans.ensures.fact c.put_within-stopped.ensures.windowed
+          texts _ _ _ c.requires _ _ _ c.rehearse-desk.ensures.stood c.rehearse-desk.ensures.windowed c.put_spans-spans.ensures.fact
+          c.put_within-stopped.ensures.windowed
           c.put_unfinished.ensures.windowed refl refl refl;
       upper_bound = omega (arith, tasks_in _ _ _ c.requires, cores_in _ _ _ c.requires);
     }

@@ -52,16 +52,19 @@ now_is : (c : Then-coming-time) → coming_at c.args.arrivals.now c.loop-desk.de
 now_is c = sym (ap (λ (x : Ticks). x.0) c.coming_at-coming.ensures) ∙ c.if-coming-time.true
 
 here : (c : Then-coming-time) → c.loop-desk.desk.next < arrivals_in c.args.arrivals.now
-here c = R.coming_here c.requires.0 c.loop-desk.invariant c.if-desk.false (early c.loop-desk.desk c.args.stop.0 c.loop-desk-test.true c.if-desk.false) (now_is c)
+here c = R.coming_here c.requires.0 c.loop-desk.invariant c.if-desk.false (early c.loop-desk.desk c.args.stop.0 c.loop-desk-test.true c.if-desk.false)
+    (now_is c)
 
 triple : (c : Then-coming-time) → 3 * c.loop-desk.desk.next + 2 < length c.args.arrivals.now
 triple c = R.triple_in (length c.args.arrivals.now) c.loop-desk.desk.next (here c)
 
 task_from : (c : Then-coming-time) → 1 ≤ arrival_task c.args.arrivals.now c.loop-desk.desk.next
-task_from c = R.from_one c.requires.0 c.loop-desk.invariant c.if-desk.false (early c.loop-desk.desk c.args.stop.0 c.loop-desk-test.true c.if-desk.false) (now_is c)
+task_from c = R.from_one c.requires.0 c.loop-desk.invariant c.if-desk.false
+    (early c.loop-desk.desk c.args.stop.0 c.loop-desk-test.true c.if-desk.false) (now_is c)
 
 task_low : (c : Then-coming-time) → arrival_task c.args.arrivals.now c.loop-desk.desk.next - 1 < tasks_limit
-task_low c = R.seat_small c.requires.0 c.loop-desk.invariant c.if-desk.false (early c.loop-desk.desk c.args.stop.0 c.loop-desk-test.true c.if-desk.false) (now_is c)
+task_low c = R.seat_small c.requires.0 c.loop-desk.invariant c.if-desk.false
+    (early c.loop-desk.desk c.args.stop.0 c.loop-desk-test.true c.if-desk.false) (now_is c)
 
 -- nothing comes now
 now_not : (c : Else-coming-time) → coming_at c.args.arrivals.now c.loop-desk.desk.next c.args.stop.0 ≡ c.loop-desk.desk.time → ⊥
@@ -203,7 +206,8 @@ bounds-plan-i-then-coming-time c = omega (arith, task_low (goal.at.bounds-plan-i
 
 pub arrive-arrived-requires : goal.arrive-arrived-requires
 arrive-arrived-requires c =
-    R.arrivable c.requires.0 c.loop-desk.invariant c.if-desk.false (early c.loop-desk.desk c.args.stop.0 c.loop-desk-test.true c.if-desk.false) (now_is (goal.at.arrive-arrived-requires c).Then-coming-time)
+    R.arrivable c.requires.0 c.loop-desk.invariant c.if-desk.false (early c.loop-desk.desk c.args.stop.0 c.loop-desk-test.true c.if-desk.false)
+    (now_is (goal.at.arrive-arrived-requires c).Then-coming-time)
 
 pub overflow_add-i-then-coming-time : goal.overflow_add-i-then-coming-time
 overflow_add-i-then-coming-time c = omega (arith, task_low (goal.at.overflow_add-i-then-coming-time c).Then-coming-time)
@@ -227,7 +231,8 @@ pub loop-desk-preserved-then-coming-time : goal.loop-desk-preserved-then-coming-
 loop-desk-preserved-then-coming-time c =
     let w = c.put_arrival.ensures in
     rw c.store_front-then-coming-time.ensures
-    (R.arrived_on c.requires.0 c.loop-desk.invariant c.if-desk.false (early c.loop-desk.desk c.args.stop.0 c.loop-desk-test.true c.if-desk.false) (now_is (goal.at.loop-desk-preserved-then-coming-time c).Then-coming-time) c.arrive-arrived.ensures w.windowed w.upper_bound)
+    (R.arrived_on c.requires.0 c.loop-desk.invariant c.if-desk.false (early c.loop-desk.desk c.args.stop.0 c.loop-desk-test.true c.if-desk.false)
+    (now_is (goal.at.loop-desk-preserved-then-coming-time c).Then-coming-time) c.arrive-arrived.ensures w.windowed w.upper_bound)
 
 pub scan-instant-requires : goal.scan-instant-requires
 scan-instant-requires c =
@@ -236,13 +241,17 @@ scan-instant-requires c =
 pub jump_from-jump-requires : goal.jump_from-jump-requires
 jump_from-jump-requires c =
     let s = c.scan-instant.ensures in
-    let u = R.until_in c.requires.0 c.loop-desk.invariant c.if-desk.false (early c.loop-desk.desk c.args.stop.0 c.loop-desk-test.true c.if-desk.false) (now_not (goal.at.jump_from-jump-requires c).Else-coming-time) in
+    let u = R.until_in c.requires.0 c.loop-desk.invariant c.if-desk.false (early c.loop-desk.desk c.args.stop.0 c.loop-desk-test.true c.if-desk.false)
+    (now_not (goal.at.jump_from-jump-requires c).Else-coming-time) in
     let k = ap (λ (x : Ticks). x.0) c.coming_at-coming.ensures in
     (omega (arith, c.loop-desk.invariant.cores, cores_few c.args.plan c.requires.0.sound), rw (s.next_value, k) u.0, rw (s.next_value, k) u.1)
 
 pub put_spans-requires : goal.put_spans-requires
-put_spans-requires c =
-    (omega (arith, R.room c.requires.0 c.loop-desk.invariant), omega (arith, c.loop-desk.invariant.cores, cores_few c.args.plan c.requires.0.sound), c.loop-desk.invariant.wide)
+put_spans-requires c = (
+  omega (arith, R.room c.requires.0 c.loop-desk.invariant),
+  omega (arith, c.loop-desk.invariant.cores, cores_few c.args.plan c.requires.0.sound),
+  c.loop-desk.invariant.wide,
+)
 
 pub ran_by-requires : goal.ran_by-requires
 ran_by-requires c =
@@ -250,7 +259,9 @@ ran_by-requires c =
     let j = c.jump_from-jump.ensures in
     let k = ap (λ (x : Ticks). x.0) c.coming_at-coming.ensures in
     let g = c.put_spans.ensures.goings_after in
-    rw (j.more_value, s.seen_value, s.next_value, k) (R.addable c.requires.0 c.loop-desk.invariant c.if-desk.false (early c.loop-desk.desk c.args.stop.0 c.loop-desk-test.true c.if-desk.false) (now_not (goal.at.ran_by-requires c).Else-coming-time) (rw s.seen_value at g))
+    rw (j.more_value, s.seen_value, s.next_value, k) (R.addable c.requires.0 c.loop-desk.invariant c.if-desk.false
+    (early c.loop-desk.desk c.args.stop.0 c.loop-desk-test.true c.if-desk.false) (now_not (goal.at.ran_by-requires c).Else-coming-time)
+    (rw s.seen_value at g))
 
 pub overflow_add-desk-else-coming-time : goal.overflow_add-desk-else-coming-time
 overflow_add-desk-else-coming-time c =
@@ -258,7 +269,14 @@ overflow_add-desk-else-coming-time c =
     let j = c.jump_from-jump.ensures in
     let k = ap (λ (x : Ticks). x.0) c.coming_at-coming.ensures in
     let v = rw (s.seen_value, s.next_value, k) at j.more_value in
-    omega (arith, v, R.on_most c.requires.0 c.loop-desk.invariant c.if-desk.false (early c.loop-desk.desk c.args.stop.0 c.loop-desk-test.true c.if-desk.false) (now_not (goal.at.overflow_add-desk-else-coming-time c).Else-coming-time), R.time_in c.requires.0 c.loop-desk.invariant)
+    omega (
+      arith,
+      v,
+      R.on_most c.requires.0 c.loop-desk.invariant c.if-desk.false
+          (early c.loop-desk.desk c.args.stop.0 c.loop-desk-test.true c.if-desk.false)
+          (now_not (goal.at.overflow_add-desk-else-coming-time c).Else-coming-time),
+      R.time_in c.requires.0 c.loop-desk.invariant,
+    )
 
 pub loop-desk-smaller : goal.loop-desk-smaller
 loop-desk-smaller c =
@@ -266,8 +284,16 @@ loop-desk-smaller c =
     let j = c.jump_from-jump.ensures in
     let k = ap (λ (x : Ticks). x.0) c.coming_at-coming.ensures in
     let v = rw (s.seen_value, s.next_value, k) at j.more_value in
-    let on = R.on_by c.requires.0 c.loop-desk.invariant c.if-desk.false (early c.loop-desk.desk c.args.stop.0 c.loop-desk-test.true c.if-desk.false) (now_not (goal.at.loop-desk-smaller c).Else-coming-time) in
-    omega (arith, on, v, early c.loop-desk.desk c.args.stop.0 c.loop-desk-test.true c.if-desk.false, c.loop-desk.invariant.cores, cores_few c.args.plan c.requires.0.sound)
+    let on = R.on_by c.requires.0 c.loop-desk.invariant c.if-desk.false (early c.loop-desk.desk c.args.stop.0 c.loop-desk-test.true c.if-desk.false)
+    (now_not (goal.at.loop-desk-smaller c).Else-coming-time) in
+    omega (
+      arith,
+      on,
+      v,
+      early c.loop-desk.desk c.args.stop.0 c.loop-desk-test.true c.if-desk.false,
+      c.loop-desk.invariant.cores,
+      cores_few c.args.plan c.requires.0.sound,
+    )
 
 pub loop-desk-preserved : goal.loop-desk-preserved
 loop-desk-preserved c =
@@ -275,8 +301,10 @@ loop-desk-preserved c =
     let j = c.jump_from-jump.ensures in
     let k = ap (λ (x : Ticks). x.0) c.coming_at-coming.ensures in
     let w = c.put_spans.ensures in
-    R.jumped_next c.requires.0 c.loop-desk.invariant c.if-desk.false (early c.loop-desk.desk c.args.stop.0 c.loop-desk-test.true c.if-desk.false) (now_not (goal.at.loop-desk-preserved c).Else-coming-time) (rw s.seen_value at w.goings_after)
-    (rw (s.seen_value, s.next_value, k) at j.more_value) (rw (s.seen_value, s.next_value, k) at j.core_value) c.ran_by.ensures (rw s.seen_value at w.fact) w.upper_bound
+    R.jumped_next c.requires.0 c.loop-desk.invariant c.if-desk.false (early c.loop-desk.desk c.args.stop.0 c.loop-desk-test.true c.if-desk.false)
+    (now_not (goal.at.loop-desk-preserved c).Else-coming-time) (rw s.seen_value at w.goings_after)
+    (rw (s.seen_value, s.next_value, k) at j.more_value) (rw (s.seen_value, s.next_value, k) at j.core_value) c.ran_by.ensures
+    (rw s.seen_value at w.fact) w.upper_bound
 
 pub shape_of-out : goal.shape_of-out
 shape_of-out c = kept c.loop-desk.invariant.wrote

@@ -58,7 +58,8 @@ with_run-more-requires c = (can (goal.at.with_run-more-requires c).Else-no-ne0).
 pub front_of-front-requires-2 : goal.front_of-front-requires-2
 front_of-front-requires-2 c =
     let a = c.args in
-    can_show a.line a.self.state a.self.work a.time.0 a.length (passed (goal.at.front_of-front-requires-2 c).Else-no-ne0) c.with_run-taken.ensures c.with_run-more.ensures c.requires
+    can_show a.line a.self.state a.self.work a.time.0 a.length
+    (passed (goal.at.front_of-front-requires-2 c).Else-no-ne0) c.with_run-taken.ensures c.with_run-more.ensures c.requires
 
 pub returns : goal.returns
 returns c =

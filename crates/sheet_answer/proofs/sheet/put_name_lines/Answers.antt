@@ -47,7 +47,8 @@ loop-place-smaller c =
 
 pub loop-place-preserved : goal.loop-place-preserved
 loop-place-preserved c =
-    onward c.loop-place.invariant c.loop-place-test.true c.name_end-next.ensures c.if-next-eq0.false c.put_named-end.ensures.wrote c.put_named-end.ensures.upper_bound
+    onward c.loop-place.invariant c.loop-place-test.true c.name_end-next.ensures c.if-next-eq0.false c.put_named-end.ensures.wrote
+    c.put_named-end.ensures.upper_bound
 
 pub shape_of-buf : goal.shape_of-buf
 shape_of-buf c = kept c.loop-place.invariant.wrote

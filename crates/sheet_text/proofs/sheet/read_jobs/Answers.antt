@@ -38,6 +38,7 @@ pub returns : goal.returns
 returns c =
     let a = c.args in
     let n = c.store_ticks-count in
-    let w = gives_jobs a.from a.tick n.result _ a.table.now n.new.table (jobs_said_lem a.sheet.now a.tick a.from c.if-sheet-gt-SHEET.false c.first_unreadable-line.ensures c.if-line-ne0.false
+    let w = gives_jobs a.from a.tick n.result _ a.table.now n.new.table
+    (jobs_said_lem a.sheet.now a.tick a.from c.if-sheet-gt-SHEET.false c.first_unreadable-line.ensures c.if-line-ne0.false
     c.named_twice.ensures c.if-named_twice.false) n.ensures.value n.ensures.table_after in
     record { value = w.0; table_after = w.1 }

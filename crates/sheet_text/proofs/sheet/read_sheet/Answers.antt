@@ -7,7 +7,8 @@ use Rattle.sheet_text.proofs.sheet.read_sheet.Goals as goal
 pub returns-then-not-tick_in : goal.returns-then-not-tick_in
 returns-then-not-tick_in c =
     let a = c.args in
-    let w = gives_no (end_of (tick_line a.sheet.now)) _ a.table.now (sheet_out a.sheet.now (sym c.in-Value.ensures) (sym c.tick_in.ensures ∙ c.if-not-tick_in.true)) in
+    let w = gives_no (end_of (tick_line a.sheet.now)) _ a.table.now
+    (sheet_out a.sheet.now (sym c.in-Value.ensures) (sym c.tick_in.ensures ∙ c.if-not-tick_in.true)) in
     record { value = w.0; table_after = w.1 }
 
 pub read_jobs-requires : goal.read_jobs-requires
@@ -25,5 +26,6 @@ returns-else-not-tick_in c =
     let e = sym c.in-Value.ensures in
     let a = c.args in
     let j = c.read_jobs.ensures in
-    let w = gives_same a.table.now (starts_at a.sheet.now e) (sheet_is a.sheet.now e (sym c.tick_in.ensures ∙ c.if-not-tick_in.false)) (j.value, j.table_after) in
+    let w = gives_same a.table.now (starts_at a.sheet.now e) (sheet_is a.sheet.now e (sym c.tick_in.ensures ∙ c.if-not-tick_in.false))
+    (j.value, j.table_after) in
     record { value = w.0; table_after = w.1 }

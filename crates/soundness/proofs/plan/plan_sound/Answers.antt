@@ -75,7 +75,9 @@ bounds-plan-i c = omega (arith, low c)
 pub returns-then-not-line_sound : goal.returns-then-not-line_sound
 returns-then-not-line_sound c =
     let pl = c.args.plan in
-    sym (tasks_break pl (task_breaks pl (known (goal.at.returns-then-not-line_sound c).Else-not-numbers_in) (long (goal.at.returns-then-not-line_sound c).Else-not-numbers_in) c.loop-i.divisor (c.loop-i.i - 1) (tested (goal.at.returns-then-not-line_sound c).In-loop-i).0
+    sym (tasks_break pl (task_breaks pl (known (goal.at.returns-then-not-line_sound c).Else-not-numbers_in)
+    (long (goal.at.returns-then-not-line_sound c).Else-not-numbers_in) c.loop-i.divisor (c.loop-i.i - 1)
+    (tested (goal.at.returns-then-not-line_sound c).In-loop-i).0
     c.if-i-count.true
     (sym c.line_sound.ensures ∙ c.if-not-line_sound.true)))
 
@@ -85,7 +87,8 @@ divisor_with-divisor-requires c = let r = in_use c in omega arith
 pub returns-then-divisor-eq0 : goal.returns-then-divisor-eq0
 returns-then-divisor-eq0 c =
     let pl = c.args.plan in
-    sym (tasks_break pl (period_breaks pl (known (goal.at.returns-then-divisor-eq0 c).Else-not-numbers_in) (long (goal.at.returns-then-divisor-eq0 c).Else-not-numbers_in) c.loop-i.divisor (c.loop-i.i - 1)
+    sym (tasks_break pl (period_breaks pl (known (goal.at.returns-then-divisor-eq0 c).Else-not-numbers_in)
+    (long (goal.at.returns-then-divisor-eq0 c).Else-not-numbers_in) c.loop-i.divisor (c.loop-i.i - 1)
     c.if-i-count.true
     (sym c.divisor_with-divisor.ensures ∙ c.if-divisor-eq0.true)))
 
@@ -106,16 +109,25 @@ loop-i-preserved-then-i-count c =
     let pl = c.args.plan in
     let n = known (goal.at.loop-i-preserved-then-i-count c).Else-not-numbers_in in
     let d = c.divisor_with-divisor in (
-      task_more pl n (long (goal.at.loop-i-preserved-then-i-count c).Else-not-numbers_in) c.loop-i.divisor (c.loop-i.i - 1) (tested (goal.at.loop-i-preserved-then-i-count c).In-loop-i).0 c.if-i-count.true
+      task_more pl n (long (goal.at.loop-i-preserved-then-i-count c).Else-not-numbers_in) c.loop-i.divisor (c.loop-i.i - 1)
+          (tested (goal.at.loop-i-preserved-then-i-count c).In-loop-i).0 c.if-i-count.true
           d.result (sound (goal.at.loop-i-preserved-then-i-count c).Else-not-line_sound) d.ensures c.if-divisor-eq0.false,
-      more pl (long (goal.at.loop-i-preserved-then-i-count c).Else-not-numbers_in) c.loop-i.sums c.with_line-sums.result (c.loop-i.i - 1) (tested (goal.at.loop-i-preserved-then-i-count c).In-loop-i).1 (low (goal.at.loop-i-preserved-then-i-count c).In-loop-i) c.with_line-sums.ensures
-          (omega (arith, sound_sum pl.common (line_of c.args.plan c.loop-i.i) (sound (goal.at.loop-i-preserved-then-i-count c).Else-not-line_sound), sound_small pl.common (line_of c.args.plan c.loop-i.i) (sound (goal.at.loop-i-preserved-then-i-count c).Else-not-line_sound), n.common_small)),
+      more pl (long (goal.at.loop-i-preserved-then-i-count c).Else-not-numbers_in) c.loop-i.sums c.with_line-sums.result (c.loop-i.i - 1)
+          (tested (goal.at.loop-i-preserved-then-i-count c).In-loop-i).1 (low (goal.at.loop-i-preserved-then-i-count c).In-loop-i) c.with_line-sums.ensures
+          (omega (
+            arith,
+            sound_sum pl.common (line_of c.args.plan c.loop-i.i) (sound (goal.at.loop-i-preserved-then-i-count c).Else-not-line_sound),
+            sound_small pl.common (line_of c.args.plan c.loop-i.i) (sound (goal.at.loop-i-preserved-then-i-count c).Else-not-line_sound),
+            n.common_small,
+          )),
     )
 
 pub returns-then-not-line_empty : goal.returns-then-not-line_empty
 returns-then-not-line_empty c =
     let pl = c.args.plan in
-    sym (tasks_break pl (past_breaks pl (known (goal.at.returns-then-not-line_empty c).Else-not-numbers_in) (long (goal.at.returns-then-not-line_empty c).Else-not-numbers_in) c.loop-i.divisor (c.loop-i.i - 1) (tested (goal.at.returns-then-not-line_empty c).In-loop-i).0
+    sym (tasks_break pl (past_breaks pl (known (goal.at.returns-then-not-line_empty c).Else-not-numbers_in)
+    (long (goal.at.returns-then-not-line_empty c).Else-not-numbers_in) c.loop-i.divisor (c.loop-i.i - 1)
+    (tested (goal.at.returns-then-not-line_empty c).In-loop-i).0
     c.if-i-count.false
     (sym c.line_empty.ensures ∙ c.if-not-line_empty.true)))
 
@@ -128,8 +140,10 @@ loop-i-preserved c =
     let n = known (goal.at.loop-i-preserved c).Else-not-numbers_in in
     let empty = sym c.line_empty.ensures ∙ c.if-not-line_empty.false in
     let zero = (empty_zero (line_of c.args.plan c.loop-i.i) empty).shares in (
-      past_more pl n (long (goal.at.loop-i-preserved c).Else-not-numbers_in) c.loop-i.divisor (c.loop-i.i - 1) (tested (goal.at.loop-i-preserved c).In-loop-i).0 c.if-i-count.false (low (goal.at.loop-i-preserved c).In-loop-i) empty,
-      more pl (long (goal.at.loop-i-preserved c).Else-not-numbers_in) c.loop-i.sums c.loop-i.sums (c.loop-i.i - 1) (tested (goal.at.loop-i-preserved c).In-loop-i).1 (low (goal.at.loop-i-preserved c).In-loop-i)
+      past_more pl n (long (goal.at.loop-i-preserved c).Else-not-numbers_in) c.loop-i.divisor (c.loop-i.i - 1)
+          (tested (goal.at.loop-i-preserved c).In-loop-i).0 c.if-i-count.false (low (goal.at.loop-i-preserved c).In-loop-i) empty,
+      more pl (long (goal.at.loop-i-preserved c).Else-not-numbers_in) c.loop-i.sums c.loop-i.sums (c.loop-i.i - 1)
+          (tested (goal.at.loop-i-preserved c).In-loop-i).1 (low (goal.at.loop-i-preserved c).In-loop-i)
           (none_more (row_of (line_of c.args.plan c.loop-i.i)) c.loop-i.sums zero) (omega (arith, zero)),
     )
 
@@ -139,4 +153,5 @@ returns c =
     let e : c.loop-i.i ≡ 0 = omega arith in
     let all = rw e at c.loop-i.invariant in
     others_decide pl c.loop-i.sums _ _ (ranges (goal.at.returns c).Else-not-numbers_in)
-    (finish pl (known (goal.at.returns c).Else-not-numbers_in) (long (goal.at.returns c).Else-not-numbers_in) c.loop-i.divisor all.0) c.cores_sound.ensures all.1.sums
+    (finish pl (known (goal.at.returns c).Else-not-numbers_in) (long (goal.at.returns c).Else-not-numbers_in) c.loop-i.divisor all.0)
+    c.cores_sound.ensures all.1.sums

@@ -57,4 +57,5 @@ pub returns : goal.returns
 returns c =
     let e : c.loop-p.p ≡ cores_limit = omega arith in
     mover_done c.args.shares c.args.self _ (rw (← c.first_core-first.ensures, c.requires.1) (rw e at c.loop-p.invariant)) c.requires.3
-    (let long : length c.args.self.firsts ≡ cores_limit = search rules in omega (arith, c.first_core-first.ensures, first-low (goal.at.returns c).After-first_core-first))
+    (let long : length c.args.self.firsts ≡ cores_limit = search rules in omega
+    (arith, c.first_core-first.ensures, first-low (goal.at.returns c).After-first_core-first))
