@@ -1,4 +1,4 @@
-// The dispatcher for the host, on a record that it lends: planning, release, finish, look and the listing. Each loads, makes one call by value and stores.
+// The dispatcher for the host, on a record that it lends: planning, release, finish, look and the listing. Each but the first loads, makes one call by value and stores; a start stores in place.
 ghost use Rattle.std.specs.Prelude.{◌≡◌};
 ghost use Rattle.dispatch.specs.Release.{release_or};
 ghost use Rattle.dispatch.specs.Finish.{finish_or};
