@@ -1,4 +1,5 @@
-// The dispatcher for the host, on a record that it lends: planning, release, finish, look and the listing. Each but the first loads, makes one call by value and stores; a start stores in place.
+// The dispatcher for the host, on a record that it lends: planning, release, finish, look and the listing.
+// A start stores in place; the others load, make one call by value and store.
 ghost use Rattle.std.specs.Prelude.{◌≡◌};
 ghost use Rattle.dispatch.specs.Release.{release_or};
 ghost use Rattle.dispatch.specs.Finish.{finish_or};
