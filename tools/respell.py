@@ -12,7 +12,6 @@ WORD = r"[A-Za-zμ≤<][A-Za-z0-9_'≤<μ]*(?:-[A-Za-z0-9_'≤<*+]+)*"
 TOKEN = re.compile(r"(?<![A-Za-z0-9_'\-◌])" + WORD + r"(?![A-Za-z0-9_'\-◌])")
 PREFIX = re.compile(r"^\s*(?:abbrev |unfoldable )?(?:pub )?(?:abbrev |unfoldable )?")
 NAME = re.compile(r"^[A-Za-zμ][A-Za-z0-9_'≤<μ*+-]*$")
-MODULE = re.compile(r"^use (\S+?)\.\{(.*)\}$")
 
 # local names of proofs
 LOCALS = "fromArrival fromEnd fromJump fromElse nowOfArrival jumpOfSpans elseOfSpans coreOfFinish doneOfFinish elseOfArrival".split()
