@@ -9,7 +9,7 @@ use borrow.Author.Tests.{eq-eqb, ne_eqb, lt-ltb, le-ltb}
 use Rattle.units.specs.Limits.{cores_limit, common_limit}
 use Rattle.lists.specs.Lists.{total}
 use Rattle.arith.specs.Period.{periods, common, period_of}
-use Rattle.arith.specs.declared.period.Period.TheVariants.{Common, Over}
+use Rattle.std.proofs.Common.{Ok, Err}
 use Rattle.arith.proofs.Table.{periods_at, periods_length}
 use Rattle.arith.proofs.Common.{common_each}
 use Rattle.arith.proofs.Within.{period_common}
@@ -47,7 +47,7 @@ passed m xs e =
 
 module _ (m : ℕ) (xs : List ℕ) (ok : (input_test m xs).no ≡ 0) where
   -- 5, naming the task
-  pub over : (k : ℕ) → period_of (periods xs) ≡ Over k → refusal period_no k ≡ plan_refusal m xs
+  pub over : (k : ℕ) → period_of (periods xs) ≡ Err k → refusal period_no k ≡ plan_refusal m xs
   unfolding plan_refusal
   over k e =
       leaves (input_test m xs) (input_test m xs) (refusal period_no k)
@@ -55,7 +55,7 @@ module _ (m : ℕ) (xs : List ℕ) (ok : (input_test m xs).no ≡ 0) where
       (decides (refusal period_no k) (period_test (period_of (periods xs))) (weights_test m (common (periods xs)) (weights (common (periods xs)) xs))
       (rw e) (λ z. omega arith))
 
-  module _ (l : ℕ) (e : period_of (periods xs) ≡ Common l) where
+  module _ (l : ℕ) (e : period_of (periods xs) ≡ Ok l) where
     is : l ≡ common (periods xs)
     is = (period_common (periods xs) l e).0
 

@@ -12,8 +12,7 @@ use Rattle.units.specs.Limits.{cores_limit, tasks_limit, period_limit}
 use Rattle.lists.specs.Lists.{total}
 use Rattle.lists.proofs.Tests.{by_cases}
 use Rattle.arith.specs.Period.{periods, period_of}
-use Rattle.arith.specs.declared.period.Period.{Period}
-use Rattle.arith.specs.declared.period.Period.TheVariants.{Common, Over}
+use Rattle.std.proofs.Common.{Result, Ok, Err}
 use Rattle.arith.proofs.Within.{period_common, period_over}
 use Rattle.admission.specs.Words.{CoresIn, CoresOut, TableIn, TableOut, tasks, cost, period, common_of, weights_of, RangeIn, RangeOut, CostOver, Fine}
 use Rattle.admission.specs.Given.{Tested, Reached, Given, none, one, two, three, four, five, six}
@@ -93,9 +92,9 @@ module _ (m : ℕ) (xs : List ℕ) where
   of_tested : Tested m xs → Some m xs
   of_tested t = go (period_of (periods xs)) refl
     where
-      go : (p : Period) → period_of (periods xs) ≡ p → Some m xs
-      go (Over k) e = (5, k, five t (period_over (periods xs) k e))
-      go (Common l) e =
+      go : (p : Result ℕ ℕ) → period_of (periods xs) ≡ p → Some m xs
+      go (Err k) e = (5, k, five t (period_over (periods xs) k e))
+      go (Ok l) e =
           let q = period_common (periods xs) l e in
           ⊎_elim (λ h. (6, 0, six t (omega arith) h))
           (λ h. (0, 0, none (record { cores = t.cores; table = t.table; ranges = t.ranges; costs = t.costs; within = omega arith; fit = h })))

@@ -6,7 +6,7 @@ use native.Mathlib.Omega.{arith}
 use borrow.Author.Tests.{le-ltb}
 use Rattle.lists.specs.Lists.{total}
 use Rattle.arith.specs.Period.{periods, period_of}
-use Rattle.arith.specs.declared.period.Period.TheVariants.{Common}
+use Rattle.std.proofs.Common.{Ok}
 use Rattle.arith.proofs.Common.{Each}
 use Rattle.arith.proofs.Table.{periods_at, periods_length}
 use Rattle.arith.proofs.Within.{over_period, common_period_lem}
@@ -53,7 +53,7 @@ module _ (m : ℕ) (xs : List ℕ) where
   passed t = ap (λ (r : Refusal). r.no) (sym (input_tasks t.cores t.table taken (tasks_in xs t.ranges t.costs)))
 
   -- and 5
-  within : Tested m xs → PeriodIn xs → period_of (periods xs) ≡ Common (common_of xs)
+  within : Tested m xs → PeriodIn xs → period_of (periods xs) ≡ Ok (common_of xs)
   within t p = common_period_lem (periods xs) (periods_some xs t.ranges) p
 
   -- a table that is taken passes tests 1 to 4

@@ -1,6 +1,5 @@
 pub mod Admitting
 pub mod Answers
-pub mod Fault
 pub mod First
 pub mod Kept
 pub mod Tasks

@@ -1,11 +1,9 @@
 -- Admission: planning's tests 1 to 6 in their order, and what a table that is taken is planned with.
-use Rattle.std.specs.Prelude.{ℕ, cond, List, eqb}
+use Rattle.std.specs.Prelude.{ℕ, Result, Ok, Err, cond, List, eqb}
 use Rattle.units.specs.Limits.{tasks_limit}
 use Rattle.units.specs.Units.{units}
 use Rattle.lists.specs.Lists.{zeros}
 use Rattle.arith.specs.Period.{periods, common, period_of}
-use Rattle.arith.specs.declared.period.Period.{Period}
-use Rattle.arith.specs.declared.period.Period.TheVariants.{Common, Over}
 use Rattle.admission.specs.Weight.{weights, padded}
 use Rattle.admission.specs.Refusals.{◌or_else◌, input_test, weights_test}
 use Rattle.units.specs.Refusals.{refusal, taken, period_no}
@@ -13,9 +11,9 @@ use Rattle.units.specs.declared.refusal.Refusal.{Refusal}
 use Rattle.admission.specs.declared.admit.Admission.{Admission}
 
 -- 5: the common period exceeds its limit, naming the first task that takes it over
-abbrev pub period_test : Period → Refusal
-period_test (Common l) = taken
-period_test (Over k) = refusal period_no k
+abbrev pub period_test : Result ℕ ℕ → Refusal
+period_test (Ok l) = taken
+period_test (Err k) = refusal period_no k
 
 -- the first refusal that applies: 1, 2, then tasks in table order (3 before 4 in each), then 5, then 6
 unfoldable pub plan_refusal : ℕ → List ℕ → Refusal

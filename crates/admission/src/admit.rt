@@ -4,8 +4,8 @@ ghost use Rattle.admission.specs.Refusals.{input_test};
 ghost use Rattle.admission.specs.Admission.{refused_with, admission_of};
 
 use crate::refusals::input_test;
-use crate::weights::weigh;
-use arith::period::{Period, common_period};
+use crate::weights::{Weighed, weigh};
+use arith::period::common_period;
 use units::limits::TASKS;
 use units::refusal::Refusal;
 use units::share::Share;
@@ -22,7 +22,7 @@ fn refused(refusal: Refusal) -> Admission
     ensures { result ≡ refused_with refusal }
 {
     Admission {
-        refusal: refusal,
+        refusal,
         common: 0,
         weights: [Share::EMPTY; TASKS],
     }
@@ -33,26 +33,26 @@ fn admit_tasks(cores: u32, table: &[u32]) -> Admission
     requires { (input_test cores table.now).no ≡ 0 }
     ensures { result ≡ admission_of cores table.now }
 {
-    match common_period(table) {
-        Period::Over(k) => refused(Refusal {
-            no: Refusal::PERIOD,
-            named: k,
-        }),
-        Period::Common(l) => {
-            let weighed = weigh(table, l);
-            if cores * l < weighed.sum.0 {
-                return refused(Refusal {
-                    no: Refusal::WEIGHTS,
-                    named: 0,
-                });
-            }
-            let weights = weighed.weights;
-            Admission {
-                refusal: Refusal::NONE,
-                common: l,
-                weights: weights,
-            }
+    let common = match common_period(table) {
+        Ok(common) => common,
+        Err(named) => {
+            return refused(Refusal {
+                no: Refusal::PERIOD,
+                named,
+            });
         }
+    };
+    let Weighed { weights, sum } = weigh(table, common);
+    if cores * common < sum.0 {
+        return refused(Refusal {
+            no: Refusal::WEIGHTS,
+            named: 0,
+        });
+    }
+    Admission {
+        refusal: Refusal::NONE,
+        common,
+        weights,
     }
 }
 

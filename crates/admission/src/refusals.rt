@@ -10,7 +10,7 @@ use units::refusal::Refusal;
 fn cores_test(cores: u32) -> Refusal
     ensures { result ≡ cores_test cores }
 {
-    if (cores == 0) | ((CORES as u32) < cores) {
+    if cores == 0 || (CORES as u32) < cores {
         return Refusal {
             no: Refusal::CORES,
             named: 0,
@@ -36,7 +36,7 @@ fn table_test(table: &[u32]) -> Refusal
 fn task_test(i: usize, cost: u32, period: u32) -> Refusal
     ensures { result ≡ task_test i cost period }
 {
-    if (cost == 0) | (period == 0) | (PERIOD < period) {
+    if cost == 0 || period == 0 || PERIOD < period {
         return Refusal {
             no: Refusal::RANGE,
             named: i,
@@ -56,13 +56,11 @@ fn tasks_test(table: &[u32]) -> Refusal
     ensures { result ≡ tasks_test 1 table.now }
 {
     let n = table.len() / 2;
-    let mut k: usize = 0;
-    while k < n {
+    for k in 0..n {
         let fault = task_test(k + 1, table[2 * k], table[2 * k + 1]);
         if fault.no != 0 {
             return fault;
         }
-        k += 1;
     }
     Refusal::NONE
 }

@@ -8,5 +8,5 @@ use units::limits::TASKS;
 pub fn no_table(numbers: usize) -> bool
     ensures { result ≡ no_table numbers }
 {
-    (numbers == 0) | (2 * TASKS < numbers) | (numbers % 2 == 1)
+    numbers == 0 || 2 * TASKS < numbers || numbers % 2 == 1
 }

@@ -31,16 +31,10 @@ pub(crate) fn weigh(table: &[u32], common: u32) -> Weighed
     let n = table.len() / 2;
     let mut weights = [Share::EMPTY; TASKS];
     let mut sum = Share::EMPTY;
-    let mut k: usize = 0;
-    while k < n {
+    for k in 0..n {
         let w = weight_of(common, table[2 * k], table[2 * k + 1]);
         weights[k] = w;
-        let total = sum.0 + w.0;
-        sum = Share(total);
-        k += 1;
+        sum = Share(sum.0 + w.0);
     }
-    Weighed {
-        weights: weights,
-        sum: sum,
-    }
+    Weighed { weights, sum }
 }

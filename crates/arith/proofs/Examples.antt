@@ -1,18 +1,18 @@
 -- Examples E9 and E10 of document 01, greatest common divisors, and how many halvings there are room for, by computation.
 use mathlib.Core.Path.{◌≡◌, refl}
 use mathlib.Core.List.{[], ◌∷◌}
+use Rattle.std.proofs.Common.{Ok, Err}
 use Rattle.arith.specs.Bits.{bits_in, bits_of, halvings}
 use Rattle.arith.specs.Divisor.{euclid, gcd, lcm}
 use Rattle.arith.specs.Period.{periods, period_of}
-use Rattle.arith.specs.declared.period.Period.TheVariants.{Common, Over}
 
 -- the second task's period takes the common period to 1,001,000
-pub E9 : period_of (periods (1 ∷ 1000 ∷ 1 ∷ 1001 ∷ [])) ≡ Over 2
+pub E9 : period_of (periods (1 ∷ 1000 ∷ 1 ∷ 1001 ∷ [])) ≡ Err 2
 unfolding period_of lcm gcd euclid
 E9 = refl
 
 -- one tick less, and it is within the limit
-pub E10 : period_of (periods (1 ∷ 999 ∷ 1 ∷ 1001 ∷ [])) ≡ Common 999999
+pub E10 : period_of (periods (1 ∷ 999 ∷ 1 ∷ 1001 ∷ [])) ≡ Ok 999999
 unfolding period_of lcm gcd euclid
 E10 = refl
 

@@ -7,10 +7,10 @@ use native.Mathlib.Omega.{arith}
 use borrow.Author.Tests.{lt-ltb, le-ltb}
 use lib.ListN.{length, get_or, drop, drop_of_length-le}
 use lib.Seq.{drop-cons}
+use Rattle.std.proofs.Common.{Ok, Err}
 use Rattle.units.specs.Limits.{common_limit}
 use Rattle.arith.specs.Divisor.{lcm}
 use Rattle.arith.specs.Period.{periods, period_from}
-use Rattle.arith.specs.declared.period.Period.TheVariants.{Common, Over}
 
 -- two numbers of the table are a task
 pub periods_length : (xs : List ℕ) → length (periods xs) ≡ length xs / 2
@@ -36,9 +36,9 @@ module _ (xs : List ℕ) (l m k : ℕ) (h : k < length xs / 2) (e : m ≡ lcm l 
   period_next b = rw (drop_period xs k h, ← e, le-ltb common_limit m b, add-one (k + 1))
 
   -- one with which it does not
-  pub period_stop : common_limit < m → period_from l (k + 1) (drop k (periods xs)) ≡ Over (k + 1)
+  pub period_stop : common_limit < m → period_from l (k + 1) (drop k (periods xs)) ≡ Err (k + 1)
   period_stop b = rw (drop_period xs k h, ← e, lt-ltb common_limit m b)
 
 -- the end of the table
-pub period_end : (xs : List ℕ) (l k : ℕ) → length xs / 2 ≤ k → period_from l (k + 1) (drop k (periods xs)) ≡ Common l
+pub period_end : (xs : List ℕ) (l k : ℕ) → length xs / 2 ≤ k → period_from l (k + 1) (drop k (periods xs)) ≡ Ok l
 period_end xs l k h = rw (drop_of_length-le (periods xs) {i = k} (omega (arith, periods_length xs)))

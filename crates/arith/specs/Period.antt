@@ -1,9 +1,7 @@
 -- The common period L, the least common multiple of all periods, kept within its limit.
-use Rattle.std.specs.Prelude.{ℕ, suc, ◌≤◌, ◌<◌, Bool, true, false, List, [], ◌∷◌, ltb, length, take}
+use Rattle.std.specs.Prelude.{ℕ, suc, ◌≤◌, ◌<◌, Result, Ok, Err, cond, List, [], ◌∷◌, ltb, length, take}
 use Rattle.units.specs.Limits.{common_limit}
 use Rattle.arith.specs.Divisor.{lcm}
-use Rattle.arith.specs.declared.period.Period.{Period}
-use Rattle.arith.specs.declared.period.Period.TheVariants.{Common, Over}
 
 -- the periods of a table, cost then period for each task
 abbrev pub periods : List ℕ → List ℕ
@@ -20,18 +18,13 @@ common_from l (t ∷ ts) = common_from (lcm l t) ts
 unfoldable pub common : List ℕ → ℕ
 common ts = common_from 1 ts
 
--- the first answer if so, else the second
-abbrev pub pick_period : Bool → Period → Period → Period
-pick_period true a b = a
-pick_period false a b = b
-
 -- the same within the limit, or the first task, from k, whose period takes the common period of the tasks so far over it
-abbrev pub period_from : ℕ → ℕ → List ℕ → Period
-period_from l k [] = Common l
-period_from l k (t ∷ ts) = pick_period (ltb common_limit (lcm l t)) (Over k) (period_from (lcm l t) (suc k) ts)
+abbrev pub period_from : ℕ → ℕ → List ℕ → Result ℕ ℕ
+period_from l k [] = Ok l
+period_from l k (t ∷ ts) = cond (ltb common_limit (lcm l t)) (Err k) (period_from (lcm l t) (suc k) ts)
 
 -- the common period within its limit, or the task, from 1, that takes it over
-unfoldable pub period_of : List ℕ → Period
+unfoldable pub period_of : List ℕ → Result ℕ ℕ
 period_of ts = period_from 1 1 ts
 
 -- k is the first of these tasks, from 1, whose period takes the common period of the tasks so far over the limit

@@ -6,9 +6,5 @@ ghost use Rattle.arith.specs.Ceiling.{ceil_div};
 pub fn ceil_div(a: u64, b: u64) -> u64
     ensures { result ≡ ceil_div a b }
 {
-    if b == 0 {
-        return 0;
-    }
-    let q = a / b;
-    if a % b == 0 { q } else { q + 1 }
+    if b == 0 { 0 } else { a.div_ceil(b) }
 }

@@ -15,14 +15,12 @@ fn odd_gcd(odd: u32, other: u32) -> u32
     while rest != 0 {
         if rest % 2 == 1 {
             if kept < rest {
-                rest = rest - kept;
+                rest -= kept;
             } else {
-                let more = kept - rest;
-                kept = rest;
-                rest = more;
+                (kept, rest) = (rest, kept - rest);
             }
         }
-        rest = rest / 2;
+        rest /= 2;
     }
     kept
 }
@@ -41,9 +39,9 @@ pub fn gcd(a: u32, b: u32) -> u32
     let mut y = b;
     let mut twos: u32 = 0;
     while y % 2 == 0 {
-        y = y / 2;
+        y /= 2;
         if x % 2 == 0 {
-            x = x / 2;
+            x /= 2;
             twos += 1;
         }
     }

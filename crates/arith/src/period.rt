@@ -5,29 +5,19 @@ ghost use Rattle.arith.specs.Period.{periods, period_of};
 use crate::divisor::lcm;
 use units::limits::COMMON;
 
-#[derive(Clone, Copy)]
-pub enum Period {
-    // The least common multiple of all periods.
-    Common(u32),
-    // The first task, from 1, whose period takes it over the limit.
-    Over(usize),
-}
-
-// The common period of a table, cost then period for each task.
-pub fn common_period(table: &[u32]) -> Period
+// The common period of a table, cost then period for each task: the least common multiple of all periods;
+// or the first task, from 1, whose period takes it over the limit.
+pub fn common_period(table: &[u32]) -> Result<u32, usize>
     ensures { result ≡ period_of (periods table.now) }
 {
     let n = table.len() / 2;
     let mut l: u32 = 1;
-    let mut k: usize = 0;
-    while k < n {
-        let t = table[2 * k + 1];
-        let m = lcm(l, t);
-        k += 1;
+    for k in 0..n {
+        let m = lcm(l, table[2 * k + 1]);
         if (COMMON as u64) < m {
-            return Period::Over(k);
+            return Err(k + 1);
         }
         l = m as u32;
     }
-    Period::Common(l)
+    Ok(l)
 }

@@ -1,4 +1,3 @@
-pub mod Tested
 pub mod Tried
 pub mod Passed
 pub mod Exactly

@@ -3,7 +3,6 @@
 
 ghost use Rattle.std.specs.Prelude.{◌≡◌};
 ghost use Rattle.arrivals.specs.Arrivals.{arrivals_in, tests_of, arrivals_refusal};
-ghost use Rattle.arrivals.specs.Inner.{place_of};
 
 use planning::Plan;
 use units::limits::TASKS;
@@ -38,40 +37,26 @@ pub fn arrival_tests(
     0
 }
 
-// The place of a task in a list.
-fn place_of(task: u64) -> usize
-    ensures { result ≡ place_of task }
-{
-    if task == 0 { 0 } else { (task - 1) as usize }
-}
-
 // The first arrival that is refused, named from 1.
 pub fn arrivals_refusal(plan: Plan, arrivals: &[u64]) -> Refusal
     ensures { result ≡ arrivals_refusal plan arrivals.now (arrivals_in arrivals.now) }
 {
-    let n = arrivals.len() / 3;
     let mut before = 0;
-    let mut k: usize = 0;
-    while k < n {
+    for k in 0..arrivals.len() / 3 {
         let time = arrivals[3 * k];
         let task = arrivals[3 * k + 1];
         let length = arrivals[3 * k + 2];
-        let i = place_of(task);
-        let mut cost = 0;
-        if i < TASKS {
-            let line = plan.lines[i];
-            cost = line.cost.0 as u64;
-        }
+        let i = task.saturating_sub(1) as usize;
+        let cost = if i < TASKS {
+            plan.lines[i].cost.0 as u64
+        } else {
+            0
+        };
         let no = arrival_tests(k, plan.count, task, cost, length, before, time);
-        let named = k + 1;
         if no != 0 {
-            return Refusal {
-                no: no,
-                named: named,
-            };
+            return Refusal { no, named: k + 1 };
         }
         before = time;
-        k = named;
     }
     Refusal::NONE
 }

@@ -23,14 +23,12 @@ fn roomiest(room: Row) -> usize
 {
     let mut best: usize = 0;
     let mut most = room.shares[0];
-    let mut p: usize = 1;
-    while p < CORES {
+    for p in 1..CORES {
         let here = room.shares[p];
         if most.0 < here.0 {
             best = p;
             most = here;
         }
-        p += 1;
     }
     best
 }
@@ -49,11 +47,11 @@ fn pass_two(
     let mut table = rows;
     let mut left = room.shares;
     let mut p: usize = 0;
-    let mut i = k;
-    while i < order.count {
+    for i in k..order.count {
         let t = order.tasks[i];
         let mut need = weights[t];
         let mut row = [Share::EMPTY; CORES];
+        // No `for`: p lives on over the tasks, and goes on only where one needs more.
         while (0 < need.0) & (p < CORES) {
             let have = left[p];
             row[p] = need.smaller(have);
@@ -64,7 +62,6 @@ fn pass_two(
             }
         }
         table[t] = Row { shares: row };
-        i += 1;
     }
     table
 }
@@ -76,8 +73,7 @@ fn pass_one(order: Order, weights: [Share; TASKS], room: Row, rows: [Row; TASKS]
 {
     let mut table = rows;
     let mut left = room;
-    let mut i: usize = 0;
-    while i < order.count {
+    for i in 0..order.count {
         let t = order.tasks[i];
         let w = weights[t];
         let p = roomiest(left);
@@ -88,9 +84,7 @@ fn pass_one(order: Order, weights: [Share; TASKS], room: Row, rows: [Row; TASKS]
         let mut row = [Share::EMPTY; CORES];
         row[p] = w;
         table[t] = Row { shares: row };
-        let rest = have.rest(w);
-        left.shares[p] = rest;
-        i += 1;
+        left.shares[p] = have.rest(w);
     }
     table
 }

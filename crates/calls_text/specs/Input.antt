@@ -1,13 +1,12 @@
 -- The player's input: a table's text, a line `calls`, then one call to a line, at most 65,536 bytes.
-use Rattle.std.specs.Prelude.{ℕ, zero, suc, ◌+◌, ◌/◌, cond, List, [], ◌∷◌, ltb, eqb, length, take}
+use Rattle.std.specs.Prelude.{Some, None, ℕ, zero, suc, ◌+◌, ◌/◌, cond, List, [], ◌∷◌, ltb, eqb, length, take}
 use Rattle.writing.specs.Ascii.{ascii}
 use Rattle.line_place.specs.Place.{line_place}
 use Rattle.scanning.specs.Lines.{unreadable_from}
 use Rattle.table_text.specs.Text.{Said, says, unreadable, text_of}
 use Rattle.dispatch.specs.declared.call.Call.{Call}
 use Rattle.calls_text.specs.Line.{call_line, line_after}
-use Rattle.calls_text.specs.declared.line.CallLine.{CallLine}
-use Rattle.calls_text.specs.declared.line.CallLine.TheVariants.{Called, NoCall}
+use Rattle.calls_text.specs.Line.{CallLine}
 
 -- bytes of an input, at most
 abbrev pub input_limit : ℕ
@@ -41,12 +40,8 @@ input_of s = cond (ltb input_limit (length s)) (unplayable 0) (after_table s (ca
 
 -- this line's call, then the later ones
 unfoldable pub then_calls : (ℕ → List Call) → CallLine → List Call
-then_calls later (Called c next) = c ∷ later next
-then_calls later NoCall = []
-
--- the call of a line, if it has one
-abbrev pub call_in : CallLine → List Call
-call_in line = then_calls (λ next. []) line
+then_calls later (Some (c, next)) = c ∷ later next
+then_calls later None = []
 
 -- the calls from a place on; f is no less than the lines' number
 unfoldable pub calls_from : ℕ → List ℕ → ℕ → List Call

@@ -2,8 +2,9 @@
 ghost use Rattle.std.specs.Prelude.{◌≡◌, ◌≤◌, length};
 ghost use Rattle.calls_text.specs.Input.{calls_place, bad_call};
 
-use crate::line::{line_after, read_call};
+use crate::line::read_call;
 use line_place::line_place;
+use scanning::lines::first_unreadable;
 
 // Where the first line `calls` stands, and the text's end if there is none.
 pub fn calls_place(text: &[u8]) -> usize
@@ -18,15 +19,6 @@ pub fn first_bad(text: &[u8], from: usize, start: usize) -> usize
     requires { start ≤ 1000000 }
     ensures { result ≡ bad_call text.now start from }
 {
-    let mut at = from;
-    let mut line = start;
-    while at < text.len() {
-        let next = line_after(read_call(text, at));
-        if next == 0 {
-            return line;
-        }
-        at = next;
-        line += 1;
-    }
-    0
+    // a line or 0: what this function's contract says may not change
+    first_unreadable(from, text.len(), start, |at| Some(read_call(text, at)?.1)).unwrap_or(0)
 }

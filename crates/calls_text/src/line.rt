@@ -1,89 +1,42 @@
 // Reading a call's line.
-ghost use Rattle.std.specs.Prelude.{◌≡◌};
-ghost use Rattle.dispatch.specs.declared.call.Call.TheVariants.{Release as release, Finish as finish, Look as look};
-ghost use Rattle.calls_text.specs.Line.{numbers_at, as_call, look_line, finish_line, call_line, line_after};
+ghost use Rattle.std.specs.Prelude.{◌≡◌, ℕ};
+ghost use Rattle.units.specs.declared.ticks.Ticks.{Ticks as TicksOf};
+ghost use Rattle.dispatch.specs.declared.call.Call.{Call as CallOf};
+ghost use Rattle.calls_text.specs.Line.{numbers_at, as_call, call_line};
 
 use dispatch::call::Call;
-use scanning::line::{Pair, read_pair};
-use scanning::word::{Word, read_word};
+use scanning::line::read_pair;
+use scanning::word::read_word;
 use units::ticks::Ticks;
 
 // 10^15, which each number is below.
 const BOUND: u64 = 1_000_000_000_000_000;
 
-// A call, and the place after its line.
-#[derive(Clone, Copy)]
-pub enum CallLine {
-    Called(Call, usize),
-    NoCall,
-}
-
-// The numbers of a release.
-fn read_release(text: &[u8], at: usize) -> CallLine
-    ensures { result ≡ as_call release (numbers_at text.now at) }
+// The numbers of a call, as the call that they make.
+fn read_numbers<F: Fn(usize, Ticks) -> Call>(
+    text: &[u8],
+    at: usize,
+    call: F,
+) -> Option<(Call, usize)>
+    requires { F.IsAlwaysCallable call }
+    ensures { (made : ℕ → TicksOf → CallOf)
+        → ((i : ℕ) (t : TicksOf) (r : CallOf) → F.post call i t r → r ≡ made i t)
+        → result ≡ as_call made (numbers_at text.now at) }
 {
-    match read_pair(text, at, BOUND) {
-        Pair::NoPair => CallLine::NoCall,
-        Pair::Two(i, t, next) => CallLine::Called(Call::Release(i as usize, Ticks(t)), next),
-    }
-}
-
-// The numbers of a finish.
-fn read_finish(text: &[u8], at: usize) -> CallLine
-    ensures { result ≡ as_call finish (numbers_at text.now at) }
-{
-    match read_pair(text, at, BOUND) {
-        Pair::NoPair => CallLine::NoCall,
-        Pair::Two(i, t, next) => CallLine::Called(Call::Finish(i as usize, Ticks(t)), next),
-    }
-}
-
-// The numbers of a look.
-fn read_look(text: &[u8], at: usize) -> CallLine
-    ensures { result ≡ as_call look (numbers_at text.now at) }
-{
-    match read_pair(text, at, BOUND) {
-        Pair::NoPair => CallLine::NoCall,
-        Pair::Two(k, t, next) => CallLine::Called(Call::Look(k as usize, Ticks(t)), next),
-    }
-}
-
-// A look's line, or no call's.
-fn look_or(text: &[u8], at: usize) -> CallLine
-    ensures { result ≡ look_line text.now at }
-{
-    match read_word(text, at, b"look ") {
-        Word::NoWord => CallLine::NoCall,
-        Word::After(next) => read_look(text, next),
-    }
-}
-
-// A finish's line, or one of those.
-fn finish_or(text: &[u8], at: usize) -> CallLine
-    ensures { result ≡ finish_line text.now at }
-{
-    match read_word(text, at, b"finish ") {
-        Word::NoWord => look_or(text, at),
-        Word::After(next) => read_finish(text, next),
-    }
+    let (i, time, next) = read_pair(text, at, BOUND)?;
+    Some((call(i as usize, Ticks(time)), next))
 }
 
 // The call's line at a place.
-pub fn read_call(text: &[u8], at: usize) -> CallLine
+pub fn read_call(text: &[u8], at: usize) -> Option<(Call, usize)>
     ensures { result ≡ call_line text.now at }
 {
-    match read_word(text, at, b"release ") {
-        Word::NoWord => finish_or(text, at),
-        Word::After(next) => read_release(text, next),
+    if let Some(next) = read_word(text, at, b"release ") {
+        return read_numbers(text, next, Call::Release);
     }
-}
-
-// The place after a line, and 0 where it cannot be read.
-pub fn line_after(line: CallLine) -> usize
-    ensures { result ≡ line_after line }
-{
-    match line {
-        CallLine::Called(call, next) => next,
-        CallLine::NoCall => 0,
+    if let Some(next) = read_word(text, at, b"finish ") {
+        return read_numbers(text, next, Call::Finish);
     }
+    let next = read_word(text, at, b"look ")?;
+    read_numbers(text, next, Call::Look)
 }

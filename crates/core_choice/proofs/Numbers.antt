@@ -26,31 +26,6 @@ told_again (Mover i d Lower) = refl
 pub told_same : (a b : Choice) → told_of a ≡ told_of b → a ≡ b
 told_same a b e = sym (told_again a) ∙ ap choice_told e ∙ told_again b
 
--- the choice that numbers tell, by their kind
-module _ (n : Told) where
-  pub as_idle : n.kind ≡ 0 → Idle ≡ choice_told n
-  as_idle e = rw e
-
-  pub as_fixed : (n.kind ≡ 0 → ⊥) → n.kind ≡ 1 → Fixed n.task n.deadline ≡ choice_told n
-  as_fixed z e = rw (ne_eqb n.kind 0 z, e)
-
-  pub as_lower : (n.kind ≡ 0 → ⊥) → (n.kind ≡ 1 → ⊥) → n.kind ≡ 2 → Mover n.task n.deadline Lower ≡ choice_told n
-  as_lower z f e = rw (ne_eqb n.kind 0 z, ne_eqb n.kind 1 f, e)
-
-  pub as_upper : (n.kind ≡ 0 → ⊥) → (n.kind ≡ 1 → ⊥) → (n.kind ≡ 2 → ⊥) → Mover n.task n.deadline Upper ≡ choice_told n
-  as_upper z f l = rw (ne_eqb n.kind 0 z, ne_eqb n.kind 1 f, ne_eqb n.kind 2 l)
-
--- a kind, by a key
-module _ (key : ℕ) where
-  pub kind_upper : key ≡ 0 → 3 ≡ kind_by key
-  kind_upper e = rw e
-
-  pub kind_lower : (key ≡ 0 → ⊥) → key ≡ 1 → 2 ≡ kind_by key
-  kind_lower u e = rw (ne_eqb key 0 u, e)
-
-  pub kind_fixed : (key ≡ 0 → ⊥) → (key ≡ 1 → ⊥) → 1 ≡ kind_by key
-  kind_fixed u l = rw (ne_eqb key 0 u, ne_eqb key 1 l)
-
 -- the numbers of the best task, if there is one
 pub best_told : (b : Best) (due : Ticks) {k : ℕ} → 0 < b.task → k ≡ kind_by b.key
     → ◌≡◌ {A = Told} (record { kind = k; task = b.task; deadline = due }) (told_of (choice_by b due.0))

@@ -43,22 +43,16 @@ impl Told {
         deadline: Ticks(0),
     };
 
-    // The choice that the numbers tell.
+    // The choice that the numbers tell. A method, not `From`: it is public, and keeps its contract and its law (`Settled`).
     pub fn choice(self) -> Choice
         ensures { result ≡ choice_told self }
     {
-        let task = self.task;
-        let deadline = self.deadline;
-        if self.kind == 0 {
-            return Choice::Idle;
+        match self.kind {
+            0 => Choice::Idle,
+            1 => Choice::Fixed(self.task, self.deadline),
+            2 => Choice::Mover(self.task, self.deadline, Side::Lower),
+            _ => Choice::Mover(self.task, self.deadline, Side::Upper),
         }
-        if self.kind == 1 {
-            return Choice::Fixed(task, deadline);
-        }
-        if self.kind == 2 {
-            return Choice::Mover(task, deadline, Side::Lower);
-        }
-        Choice::Mover(task, deadline, Side::Upper)
     }
 }
 
@@ -86,10 +80,7 @@ pub fn better_task(
     }
     let key = state.key(line, core);
     if (best.task == 0) | (key < best.key) {
-        return Best {
-            task: task,
-            key: key,
-        };
+        return Best { task, key };
     }
     best
 }
@@ -98,10 +89,11 @@ pub fn better_task(
 fn kind_of(key: u64) -> u64
     ensures { result ≡ kind_by key }
 {
-    if key == 0 {
-        return 3;
+    match key {
+        0 => 3,
+        1 => 2,
+        _ => 1,
     }
-    if key == 1 { 2 } else { 1 }
 }
 
 impl Best {
@@ -110,12 +102,10 @@ impl Best {
         requires { 0 < self.task }
         ensures { result ≡ told_of (choice_by self (deadline_of state)) }
     {
-        let deadline = state.deadlines[0];
-        let kind = kind_of(self.key);
         Told {
-            kind: kind,
+            kind: kind_of(self.key),
             task: self.task,
-            deadline: deadline,
+            deadline: state.deadlines[0],
         }
     }
 }

@@ -23,7 +23,7 @@ pub fn few_movers(movers: u32) -> bool
 pub fn one_first(movers: u32, firsts: u32) -> bool
     ensures { result ≡ (not (eqb movers 2) || eqb firsts 1) }
 {
-    !(movers == 2) | (firsts == 1)
+    (movers != 2) | (firsts == 1)
 }
 
 // The heaviest fixed task weighs at least as much as the heaviest mover.

@@ -119,6 +119,7 @@ fn put_unfinished(buf: &mut [u8], at: usize, ran: Ran, deadline: Ticks, had: u64
 }
 
 // An event's line.
+#[tactic(auto, unfolding(crate::specs::Lines::event_text))]
 pub fn put_event(buf: &mut [u8], at: usize, event: Event) -> usize
     requires { at + 180 ≤ place_limit }
     ensures wrote { Wrote buf.old at (event_text event) buf.new result }

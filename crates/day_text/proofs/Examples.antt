@@ -10,7 +10,7 @@ use Rattle.scanning.specs.Line.{followed_by, field_at, second_after, first_after
 use Rattle.scanning.specs.Lines.{pair_end, unreadable_from}
 use Rattle.scanning.specs.Word.{word_at}
 use Rattle.table_text.specs.Text.{then_later as then_tasks, numbers_from, table_from, after_cores, text_of}
-use Rattle.day_text.specs.Line.{stop_after, stop_line, is_read, stop_here, stop_place, after_time, from_time, arrival_line}
+use Rattle.day_text.specs.Line.{stop_after, stop_line, stop_here, stop_place, after_time, from_time, arrival_line}
 use Rattle.day_text.specs.Input.{DaySays, rehearses, unreadable, then_later, arrivals_from, then_place, place_after, after_stop, after_table, day_of}
 
 -- what an input says
@@ -22,7 +22,7 @@ pub readable :
     Says "1\n2 5\nrehearse 10\n0 1 2\n7 1 1\n" (rehearses 1 (2 ∷ 5 ∷ []) 10 (0 ∷ 1 ∷ 2 ∷ 7 ∷ 1 ∷ 1 ∷ []) false)
     × Says "1\n2 5\nrehearse 0\n" (rehearses 1 (2 ∷ 5 ∷ []) 0 [] false)
     × Says "1\nrehearse 999999999999999\n999999999999999 0 0\n" (rehearses 1 [] 999999999999999 (999999999999999 ∷ 0 ∷ 0 ∷ []) false)
-unfolding day_of after_table after_stop stop_place stop_here is_read stop_line stop_after first_place word_at field_at followed_by number_at first_of digits_of digit_of text_of
+unfolding day_of after_table after_stop stop_place stop_here stop_line stop_after first_place word_at field_at followed_by number_at first_of digits_of digit_of text_of
     after_cores table_from unreadable_from numbers_from then_tasks pair_end pair_at first_after second_after arrival_line from_time after_time
     arrivals_from then_later
     place_after then_place
@@ -35,7 +35,7 @@ pub left :
     × Says "1\n2 5\nrehearse 9\n0 1 2" (rehearses 1 (2 ∷ 5 ∷ []) 9 [] true)
     × Says "1\n2 5\nrehearse 9\n\n0 1 2\n" (rehearses 1 (2 ∷ 5 ∷ []) 9 [] true)
     × Says "1\n2 5\nrehearse 9\n0 1 2\nrehearse 9\n" (rehearses 1 (2 ∷ 5 ∷ []) 9 (0 ∷ 1 ∷ 2 ∷ []) true)
-unfolding day_of after_table after_stop stop_place stop_here is_read stop_line stop_after first_place word_at field_at followed_by number_at first_of digits_of digit_of text_of
+unfolding day_of after_table after_stop stop_place stop_here stop_line stop_after first_place word_at field_at followed_by number_at first_of digits_of digit_of text_of
     after_cores table_from unreadable_from numbers_from then_tasks pair_end pair_at first_after second_after arrival_line from_time after_time
     arrivals_from then_later
     place_after then_place
@@ -49,7 +49,7 @@ pub unreadables :
     × Says "1\n2 5\nrehearse 1000000000000000\n" (unreadable 3)
     × Says "1\n2 5\n rehearse 9\n" (unreadable 3)
     × Says "rehearse 9\n0 1 2\n" (unreadable 0)
-unfolding day_of after_table after_stop stop_place stop_here is_read stop_line stop_after first_place word_at field_at followed_by number_at first_of digits_of digit_of text_of
+unfolding day_of after_table after_stop stop_place stop_here stop_line stop_after first_place word_at field_at followed_by number_at first_of digits_of digit_of text_of
     after_cores table_from unreadable_from numbers_from then_tasks pair_end pair_at first_after second_after arrival_line from_time after_time
     arrivals_from then_later
     place_after then_place

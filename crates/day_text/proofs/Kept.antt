@@ -1,4 +1,5 @@
 -- Storing the numbers of the arrivals' lines, of n lines at most.
+use Rattle.std.specs.declared.option.Option.TheVariants.{Some, None}
 use Prim.Native.Nat.{ℕ, suc, ◌+◌, ◌-◌, ◌*◌, ◌≤◌, ◌<◌}
 use mathlib.Core.Path.{◌≡◌, refl, sym, ap, ◌∙◌}
 use mathlib.Core.List.{List, [], ◌∷◌}
@@ -10,7 +11,6 @@ use lib.Seq.{sets}
 use Rattle.day_text.specs.Line.{arrival_line}
 use Rattle.day_text.specs.Input.{arrivals_from, place_after}
 use Rattle.day_text.proofs.Lines.{arrivals_none, place_none, arrivals_later, place_later}
-use Rattle.day_text.specs.declared.line.ArrivalLine.TheVariants.{Arrived, NoArrival}
 
 -- three stores are those of an arrival
 pub three : (l : List ℕ) {l₁ l₂ l₃ : List ℕ} (i t k n : ℕ) → l₁ ≡ set l (3 * i) t → l₂ ≡ set l₁ (3 * i + 1) k → l₃ ≡ set l₂ (3 * i + 2) n
@@ -32,7 +32,6 @@ three_long l i t k n = simp length-set refl
 
 -- while numbers are stored: those of i arrivals stand in the list, and those that are left make up the whole
 pub record Kept (n : ℕ) (s : List ℕ) (from : ℕ) (before now : List ℕ) (i at : ℕ) : Type 0 where
-  pub within : i ≤ n
   pub long : length now ≡ length before
   pub count : length (arrivals_from n s from) ≡ 3 * i + length (arrivals_from (n - i) s at)
   pub place : place_after n s from ≡ place_after (n - i) s at
@@ -40,7 +39,7 @@ pub record Kept (n : ℕ) (s : List ℕ) (from : ℕ) (before now : List ℕ) (i
 
 -- at first none stands
 pub start : (n : ℕ) (s : List ℕ) (from : ℕ) (l : List ℕ) → Kept n s from l l 0 from
-start n s from l = record { within = omega arith; long = refl; count = rw sub-zero (omega arith); place = rw sub-zero refl; list = rw sub-zero refl }
+start n s from l = record { long = refl; count = rw sub-zero (omega arith); place = rw sub-zero refl; list = rw sub-zero refl }
 
 -- what is answered, with no more numbers: all stand
 abbrev Whole : ℕ → List ℕ → ℕ → List ℕ → List ℕ → ℕ → ℕ → Type 0
@@ -49,13 +48,12 @@ Whole n s from before now i at =
 
 module _ (n : ℕ) (s : List ℕ) (from : ℕ) (before : List ℕ) {now : List ℕ} (i at : ℕ) (h : Kept n s from before now i at) where
   -- the numbers of one more arrival
-  pub more : {later : List ℕ} (t k m : ℕ) {next : ℕ} → i < n → arrival_line s at ≡ Arrived t k m next → later ≡ sets now (3 * i) (t ∷ k ∷ m ∷ [])
+  pub more : {later : List ℕ} (t k m : ℕ) {next : ℕ} → i < n → arrival_line s at ≡ Some (t, k, m, next) → later ≡ sets now (3 * i) (t ∷ k ∷ m ∷ [])
       → Kept n s from before later (i + 1) next
   more {later} t k m {next} l p a =
       let e : n - i ≡ suc (n - (i + 1)) = omega arith in
       let q = arrivals_later s at _ _ e p in
       record {
-        within = omega arith;
         long = ap length a ∙ three_long now i t k m ∙ h.long;
         count = omega (arith, h.count, ap length q);
         place = h.place ∙ place_later s at _ _ e p;
@@ -66,10 +64,13 @@ module _ (n : ℕ) (s : List ℕ) (from : ℕ) (before : List ℕ) {now : List �
   whole e f = ((omega (arith, h.count, ap length e), ap (λ (p : ℕ). ltb p (length s)) (sym (h.place ∙ f))), sym (h.list ∙ rw e refl))
 
   -- a line cannot be read
-  pub ended : arrival_line s at ≡ NoArrival → Whole n s from before now i at
+  pub ended : arrival_line s at ≡ None → Whole n s from before now i at
   ended p = whole (arrivals_none s at (n - i) p) (place_none s at (n - i) p)
 
   -- n lines were read
-  pub full : n ≤ i → Whole n s from before now i at
+  pub full : n ≤ i → i ≤ n → Whole n s from before now n at
   unfolding arrivals_from place_after
-  full l = let z : n - i ≡ 0 = omega arith in whole (rw z refl) (rw z refl)
+  full l m =
+      let z : n - i ≡ 0 = omega arith in
+      let e : i ≡ n = omega arith in
+      rw e at (whole (rw z refl) (rw z refl))

@@ -1,4 +1,3 @@
-pub mod Places
 pub mod Lines
 pub mod Kept
 pub mod Answers

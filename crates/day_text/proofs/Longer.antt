@@ -1,4 +1,5 @@
 -- What an input says is decided by its first 200,730 bytes.
+use Rattle.std.specs.declared.option.Option.TheVariants.{Some, None}
 use Prim.Native.Nat.{ℕ, zero, suc, ◌+◌, ◌-◌, ◌*◌, ◌≤◌, ◌<◌}
 use mathlib.Core.Path.{◌≡◌, refl, sym, ap, ap₂, ◌∙◌}
 use mathlib.Core.Bool.{Bool}
@@ -13,9 +14,8 @@ use Rattle.lists.proofs.Tests.{by_cases}
 use Rattle.line_place.specs.Place.{first_place}
 use Rattle.table_text.specs.Text.{Said, says, unreadable as no_table, text_of}
 use Rattle.table_text.proofs.Says.{text_long}
-use Rattle.scanning.specs.declared.number.Number.{Number}
-use Rattle.scanning.specs.declared.number.Number.TheVariants.{Value, NoNumber}
-use Rattle.day_text.specs.Line.{stop_line, stop_here, stop_place, arrival_line}
+use Rattle.scanning.specs.Number.{Number}
+use Rattle.day_text.specs.Line.{ArrivalLine, stop_line, stop_here, stop_place, arrival_line}
 use Rattle.day_text.specs.Input.{
   rehearses,
   unreadable,
@@ -30,8 +30,6 @@ use Rattle.day_text.specs.Input.{
   day_of,
 }
 use Rattle.day_text.proofs.Cut.{stop_short, line_short, stop_cut, line_cut}
-use Rattle.day_text.specs.declared.line.ArrivalLine.{ArrivalLine}
-use Rattle.day_text.specs.declared.line.ArrivalLine.TheVariants.{Arrived, NoArrival}
 
 module _ (n : ℕ) (s : List ℕ) where
   -- the arrivals from a place on, of f lines: they end forty-eight bytes or less after each
@@ -42,11 +40,11 @@ module _ (n : ℕ) (s : List ℕ) where
       ap (then_later (λ next. arrivals_from f (take n s) next)) (line_cut n s at (omega arith))
       ∙ go (arrival_line s at) (λ t i l a e. line_short s at t i l a e) (λ next k. arrivals_cut f next (omega arith))
     where
-      go : (line : ArrivalLine) → ((t i l a : ℕ) → line ≡ Arrived t i l a → a ≤ at + 48)
+      go : (line : ArrivalLine) → ((t i l a : ℕ) → line ≡ Some (t, i, l, a) → a ≤ at + 48)
           → ((next : ℕ) → next ≤ at + 48 → arrivals_from f (take n s) next ≡ arrivals_from f s next)
           → then_later (λ next. arrivals_from f (take n s) next) line ≡ then_later (λ next. arrivals_from f s next) line
-      go (Arrived t i l a) g later = ap (λ (ys : List ℕ). t ∷ i ∷ l ∷ ys) (later a (g t i l a refl))
-      go NoArrival g later = refl
+      go (Some (t, i, l, a)) g later = ap (λ (ys : List ℕ). t ∷ i ∷ l ∷ ys) (later a (g t i l a refl))
+      go None g later = refl
 
   place_cut : (f at : ℕ) → at + 48 * f ≤ n → place_after f (take n s) at ≡ place_after f s at
   unfolding place_after then_place
@@ -55,21 +53,21 @@ module _ (n : ℕ) (s : List ℕ) where
       ap (then_place (λ next. place_after f (take n s) next) at) (line_cut n s at (omega arith))
       ∙ go (arrival_line s at) (λ t i l a e. line_short s at t i l a e) (λ next k. place_cut f next (omega arith))
     where
-      go : (line : ArrivalLine) → ((t i l a : ℕ) → line ≡ Arrived t i l a → a ≤ at + 48)
+      go : (line : ArrivalLine) → ((t i l a : ℕ) → line ≡ Some (t, i, l, a) → a ≤ at + 48)
           → ((next : ℕ) → next ≤ at + 48 → place_after f (take n s) next ≡ place_after f s next)
           → then_place (λ next. place_after f (take n s) next) at line ≡ then_place (λ next. place_after f s next) at line
-      go (Arrived t i l a) g later = later a (g t i l a refl)
-      go NoArrival g later = refl
+      go (Some (t, i, l, a)) g later = later a (g t i l a refl)
+      go None g later = refl
 
 place_short : (s : List ℕ) (f at : ℕ) → place_after f s at ≤ at + 48 * f
 unfolding place_after then_place
 place_short s zero at = omega arith
 place_short s (suc f) at = go (arrival_line s at) (λ t i l a e. line_short s at t i l a e) (λ next. place_short s f next)
   where
-    go : (line : ArrivalLine) → ((t i l a : ℕ) → line ≡ Arrived t i l a → a ≤ at + 48) → ((next : ℕ) → place_after f s next ≤ next + 48 * f)
+    go : (line : ArrivalLine) → ((t i l a : ℕ) → line ≡ Some (t, i, l, a) → a ≤ at + 48) → ((next : ℕ) → place_after f s next ≤ next + 48 * f)
         → then_place (λ next. place_after f s next) at line ≤ at + 48 * suc f
-    go (Arrived t i l a) g later = omega (arith, later a, g t i l a refl)
-    go NoArrival g later = omega arith
+    go (Some (t, i, l, a)) g later = omega (arith, later a, g t i l a refl)
+    go None g later = omega arith
 
 -- the first place of a test: no earlier than where it is looked for, and no later than its end
 first_from : (f : ℕ → Bool) (n at : ℕ) → (at ≤ first_place f n at) × (first_place f n at ≤ at + n)
@@ -129,12 +127,12 @@ module _ (n : ℕ) (s : List ℕ) (enough : input_limit ≤ n) (longer : n ≤ l
       lt-ltb (place_after lines_limit (take n s) at) (length (take n s)) (omega (arith, p, e, cut_length))
       ∙ sym (lt-ltb (place_after lines_limit s at) (length s) (omega (arith, p)))
 
-  stop_same : (m : ℕ) (xs : List ℕ) (w : Number) → ((stop at : ℕ) → w ≡ Value stop at → at ≤ 4121) → after_stop (take n s) m xs w ≡ after_stop s m xs w
+  stop_same : (m : ℕ) (xs : List ℕ) (w : Number) → ((stop at : ℕ) → w ≡ Some (stop, at) → at ≤ 4121) → after_stop (take n s) m xs w ≡ after_stop s m xs w
   unfolding after_stop
-  stop_same m xs (Value stop at) f =
+  stop_same m xs (Some (stop, at)) f =
       let h = f stop at refl in
       ap₂ (rehearses m xs stop) (arrivals_cut n s lines_limit at (omega arith)) (more_same at h)
-  stop_same m xs NoNumber f = refl
+  stop_same m xs None f = refl
 
   table_same : (p : ℕ) (w : Said) → p ≤ 4096 → after_table (take n s) p w ≡ after_table s p w
   unfolding after_table

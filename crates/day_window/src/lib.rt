@@ -26,6 +26,7 @@ fn put_cut(out: &mut [u8], skipped: usize, event: Event) -> usize
 }
 
 // An event's line at a place of a text, of which a buffer holds what stands from another place on, as far as it reaches.
+#[tactic(auto, using(crate::proofs::Windows::inside, crate::proofs::Windows::before))]
 pub fn put_within(out: &mut [u8], skip: usize, at: usize, event: Event) -> usize
     requires { at + 180 ≤ place_limit }
     ensures windowed { Windowed out.old skip at (event_text event) out.new result }

@@ -1,3 +1,2 @@
-pub mod Said
 pub mod Spans
 pub mod Settled

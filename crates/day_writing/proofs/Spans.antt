@@ -22,7 +22,11 @@ use Rattle.day_window.specs.Window.{Windowed}
 use Rattle.day_window.proofs.Saying.{Saying, begun, onward, all}
 use Rattle.day_rules.specs.Day.{span_end}
 use Rattle.day_rules.specs.Spans.{spans_end}
-use Rattle.day_writing.proofs.Said.{spans_more}
+
+-- the spans of one core more
+spans_more : (gs hs : List Going) (t p : ℕ)
+    → spans_end gs hs t p ++ span_end p (get_or gs p no_going) (get_or hs p no_going).task (get_or hs p no_going).run t ≡ spans_end gs hs t (p + 1)
+spans_more gs hs t p = ap (spans_end gs hs t) (sym (add-one p))
 
 module _ (xs : List ℕ) (ss : List Seen) (t n : ℕ) where
   -- the spans of the first k cores

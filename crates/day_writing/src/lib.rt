@@ -20,6 +20,7 @@ use units::limits::CORES;
 use units::ticks::Ticks;
 
 // A refused arrival; nothing where its number is 0.
+#[tactic(auto, using(day_window::proofs::Windows::none, day_window::proofs::Saying::alone))]
 pub fn put_arrival(
     out: &mut [u8],
     skip: usize,
@@ -40,6 +41,7 @@ pub fn put_arrival(
 }
 
 // The span that ends on a core, from 0, where another run has it now.
+#[tactic(auto, using(day_window::proofs::Windows::none, day_window::proofs::Saying::alone))]
 fn put_span(
     out: &mut [u8],
     skip: usize,
@@ -53,18 +55,15 @@ fn put_span(
     ensures windowed { Windowed out.old skip at (events_text (span_end core old new.task new.run time.0)) out.new result }
     ensures upper_bound { result ≤ at + 180 }
 {
-    let same = (old.task == new.task) & (old.run == new.run);
-    if same | (old.task == 0) {
+    if old.is_run(new.task, new.run) || old.task == 0 {
         return at;
     }
-    let number = core + 1;
     let ran = Ran {
-        core: number,
+        core: core + 1,
         task: old.task,
         run: old.run,
     };
-    let from = old.from;
-    put_within(out, skip, at, Event::Spanned(ran, from, time))
+    put_within(out, skip, at, Event::Spanned(ran, old.from, time))
 }
 
 // Those of all cores, by rising core, where the choices have the cores from now on.
@@ -84,14 +83,11 @@ pub fn put_spans(
     ensures goings_after { goings.new ≡ gone_on goings.old seen time.0 cores }
 {
     let mut end = at;
-    let mut core: usize = 0;
-    while core < cores {
-        let one = seen[core];
+    for core in 0..cores {
         let old = going_in(goings, core);
-        let new = old.then(one.task, one.run, time);
+        let new = old.then(seen[core].task, seen[core].run, time);
         end = put_span(out, skip, end, core, old, new, time);
         store_going(goings, core, new);
-        core += 1;
     }
     end
 }

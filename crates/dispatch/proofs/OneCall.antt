@@ -3,15 +3,14 @@ use Prim.Native.Nat.{ℕ}
 use mathlib.Core.Path.{◌≡◌, refl, sym, ◌∙◌}
 use lib.Dec.{eqb}
 use lib.IntN.{ℤ}
-use borrow.Author.Tests.{eqb-true, ne_eqb}
+use borrow.Author.Tests.{eqb-true}
 use Rattle.lists.proofs.Tests.{by_cases}
-use Rattle.units.specs.Refusals.{refusal}
 use Rattle.units.specs.declared.ticks.Ticks.{Ticks}
 use Rattle.dispatch.specs.declared.Record.{Record}
 use Rattle.dispatch.specs.declared.call.Call.{Call}
 use Rattle.dispatch.specs.declared.call.Call.TheVariants.{Release, Finish, Look}
 use Rattle.dispatch.specs.declared.call.Answer.{Answer}
-use Rattle.dispatch.specs.declared.call.Answer.TheVariants.{Refused, Released as released, Finished as finished, Looked as looked}
+use Rattle.dispatch.specs.declared.call.Answer.TheVariants.{Released as released, Finished as finished, Looked as looked}
 use Rattle.dispatch.specs.declared.call.Answered.{Answered}
 use Rattle.dispatch.specs.declared.release.Released.{Released}
 use Rattle.dispatch.specs.declared.finish.Finished.{Finished}
@@ -24,14 +23,6 @@ use Rattle.dispatch.specs.Calls.{or_refused, answered_of, refusal_in, call_refus
 use Rattle.dispatch.proofs.Answers.{release_answer, finish_answer, look_answer}
 
 module _ (n : ℕ) (taken : Answer) where
-  -- a call that is taken
-  pub is_taken : n ≡ 0 → taken ≡ or_refused n taken
-  is_taken e = rw e refl
-
-  -- one that is refused
-  pub is_refused : (n ≡ 0 → ⊥) → Refused (refusal n 0) ≡ or_refused n taken
-  is_refused e = rw (ne_eqb n 0 e) refl
-
   -- the refusal is the number that was given
   given : refusal_in taken ≡ 0 → refusal_in (or_refused n taken) ≡ n
   given z = by_cases (eqb n 0) (λ e. rw e (z ∙ sym (eqb-true n 0 e))) (λ e. rw e refl)

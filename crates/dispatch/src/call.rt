@@ -36,7 +36,7 @@ fn or_refused(no: u32, taken: Answer) -> Answer
     ensures { result ≡ or_refused no taken }
 {
     if no != 0 {
-        return Answer::Refused(Refusal { no: no, named: 0 });
+        return Answer::Refused(Refusal { no, named: 0 });
     }
     taken
 }
@@ -49,34 +49,24 @@ impl Record {
         match call {
             Call::Release(task, time) => {
                 let released = self.release(task, time);
-                let deadline = released.deadline;
-                let answer = or_refused(
-                    released.refusal,
-                    Answer::Released(released.core, deadline),
-                );
-                let next = released.next;
+                let taken = Answer::Released(released.core, released.deadline);
                 Answered {
-                    answer: answer,
-                    next: next,
+                    answer: or_refused(released.refusal, taken),
+                    next: released.next,
                 }
             }
             Call::Finish(task, time) => {
                 let finished = self.finish(task, time);
-                let answer = or_refused(finished.refusal, Answer::Finished(finished.late));
-                let next = finished.next;
                 Answered {
-                    answer: answer,
-                    next: next,
+                    answer: or_refused(finished.refusal, Answer::Finished(finished.late)),
+                    next: finished.next,
                 }
             }
             Call::Look(core, time) => {
                 let looked = self.look(core, time);
-                let choice = looked.choice;
-                let answer = or_refused(looked.refusal, Answer::Looked(choice));
-                let next = looked.next;
                 Answered {
-                    answer: answer,
-                    next: next,
+                    answer: or_refused(looked.refusal, Answer::Looked(looked.choice)),
+                    next: looked.next,
                 }
             }
         }

@@ -33,15 +33,12 @@ impl Record {
         let mut by = late;
         if no == 0 {
             let i = task - 1;
-            let lines = self.plan.lines;
-            let line = lines[i];
+            let line = self.plan.lines[i];
             let state = self.states[i];
             no = state.finish_tests(line, time);
             if no == 0 {
-                let oldest = state.deadlines[0];
-                by = time.0 as i64 - oldest.0 as i64;
-                let after = state.without_run();
-                self.states[i] = after;
+                by = time.0 as i64 - state.deadlines[0].0 as i64;
+                self.states[i] = state.without_run();
                 self.clock = time;
             }
         }

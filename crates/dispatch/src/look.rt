@@ -30,13 +30,10 @@ impl Record {
         ensures { result ≡ look_of self core time.0 }
     {
         let looked = self.look_or(core, time, Told::IDLE);
-        let told = looked.told;
-        let next = looked.next;
-        let choice = told.choice();
         Looked {
             refusal: looked.refusal,
-            choice: choice,
-            next: next,
+            choice: looked.told.choice(),
+            next: looked.next,
         }
     }
 
@@ -51,22 +48,17 @@ impl Record {
         let no = shared_tests(sound, Refusal::CORE, cores, core, clock, time);
         let mut chosen = told;
         if no == 0 {
+            // Copies: read out of the record, which is handed on, the lines cost a look a sixth more (tried).
             let lines = self.plan.lines;
             let states = self.states;
             let count = self.plan.count;
             chosen = Told::IDLE;
             let mut best = Best { task: 0, key: 0 };
-            let mut i: usize = 0;
-            while i < count {
-                let line = lines[i];
-                let state = states[i];
-                i += 1;
-                best = better_task(best, i, line, state, core, time);
+            for i in 0..count {
+                best = better_task(best, i + 1, lines[i], states[i], core, time);
             }
             if 0 < best.task {
-                let at = best.task - 1;
-                let state = states[at];
-                chosen = best.told(state);
+                chosen = best.told(states[best.task - 1]);
             }
             self.clock = time;
         }

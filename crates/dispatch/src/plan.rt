@@ -22,7 +22,7 @@ impl Record {
         ensures { result ≡ record_of plan }
     {
         Record {
-            plan: plan,
+            plan,
             clock: Ticks(0),
             states: [State::FRESH; TASKS],
         }
@@ -32,13 +32,10 @@ impl Record {
     pub fn fresh(cores: u32, table: &[u32]) -> Fresh
         ensures { result ≡ fresh_of cores table.now }
     {
-        let answer = plan_of(cores, table);
-        let refusal = answer.refusal;
-        let plan = answer.plan;
-        let next = Record::of(plan);
+        let planned = plan_of(cores, table);
         Fresh {
-            refusal: refusal,
-            next: next,
+            refusal: planned.refusal,
+            next: Record::of(planned.plan),
         }
     }
 }

@@ -35,16 +35,14 @@ impl Record {
         let mut due = deadline;
         if no == 0 {
             let i = task - 1;
-            let lines = self.plan.lines;
-            let line = lines[i];
+            let line = self.plan.lines[i];
             let state = self.states[i];
             no = state.release_tests(line, time);
             if no == 0 {
                 let taken = state.with_run(line, time);
-                let after = taken.state;
                 on = taken.core;
                 due = taken.deadline;
-                self.states[i] = after;
+                self.states[i] = taken.state;
                 self.clock = time;
             }
         }

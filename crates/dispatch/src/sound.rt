@@ -15,15 +15,10 @@ use units::limits::{CLOCK, TASKS};
 fn states_sound(plan: Plan, states: [State; TASKS]) -> bool
     ensures { result ≡ all_below tasks_limit (state_ok plan states) }
 {
-    let count = plan.count;
-    let mut i: usize = 0;
-    while i < TASKS {
-        let line = plan.lines[i];
-        let state = states[i];
-        if !state_ok(state, i < count, line) {
+    for i in 0..TASKS {
+        if !state_ok(states[i], i < plan.count, plan.lines[i]) {
             return false;
         }
-        i += 1;
     }
     true
 }
@@ -36,8 +31,7 @@ impl Record {
         if CLOCK < self.clock.0 {
             return false;
         }
-        let states = self.states;
-        if !states_sound(self.plan, states) {
+        if !states_sound(self.plan, self.states) {
             return false;
         }
         plan_sound(self.plan)

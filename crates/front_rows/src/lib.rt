@@ -6,7 +6,7 @@ ghost use Rattle.units.specs.Limits.{tasks_limit};
 ghost use Rattle.front_rows.specs.Rows.{front_at, put_front};
 
 use fronts::Front;
-use lent_numbers::store_wide;
+use lent_numbers::store;
 use units::ticks::Ticks;
 
 // A task's front, its task from 0.
@@ -15,21 +15,14 @@ pub fn front_in(fronts: &[u64], i: usize) -> Front
     ensures { result ≡ front_at fronts.now i }
 {
     let at = 7 * i;
-    let core = fronts[at] as usize;
-    let release = fronts[at + 1];
-    let key = fronts[at + 2];
-    let length = fronts[at + 3];
-    let run = fronts[at + 4];
-    let last = fronts[at + 5];
-    let period = fronts[at + 6];
     Front {
-        core: core,
-        release: Ticks(release),
-        key: key,
-        length: length,
-        run: run,
-        last: Ticks(last),
-        period: period,
+        core: fronts[at] as usize,
+        release: Ticks(fronts[at + 1]),
+        key: fronts[at + 2],
+        length: fronts[at + 3],
+        run: fronts[at + 4],
+        last: Ticks(fronts[at + 5]),
+        period: fronts[at + 6],
     }
 }
 
@@ -39,14 +32,11 @@ pub fn store_front(fronts: &mut [u64], i: usize, front: Front)
     ensures { fronts.new ≡ put_front fronts.old i front }
 {
     let at = 7 * i;
-    let core = front.core as u64;
-    let release = front.release;
-    let last = front.last;
-    store_wide(fronts, at, core);
-    store_wide(fronts, at + 1, release.0);
-    store_wide(fronts, at + 2, front.key);
-    store_wide(fronts, at + 3, front.length);
-    store_wide(fronts, at + 4, front.run);
-    store_wide(fronts, at + 5, last.0);
-    store_wide(fronts, at + 6, front.period);
+    store(fronts, at, front.core as u64);
+    store(fronts, at + 1, front.release.0);
+    store(fronts, at + 2, front.key);
+    store(fronts, at + 3, front.length);
+    store(fronts, at + 4, front.run);
+    store(fronts, at + 5, front.last.0);
+    store(fronts, at + 6, front.period);
 }

@@ -32,25 +32,21 @@ impl Front {
     pub fn sees(self, time: Ticks) -> bool
         ensures { result ≡ sees self time.0 }
     {
-        let release = self.release;
-        (0 < self.core) & (self.core <= CORES) & (release.0 <= time.0)
+        0 < self.core && self.core <= CORES && self.release.0 <= time.0
     }
 
     // The task's next release time ahead, where it is before another time: those ahead lie a period apart, up to the last.
+    #[tactic(auto, unfolding(crate::specs::Front::ahead_of))]
     pub fn ahead(self, time: Ticks, until: Ticks) -> Ticks
         ensures { result ≡ ticks (ahead_of self time.0 until.0) }
     {
-        let last = self.last;
-        let apart = self.period;
-        if (last.0 <= time.0) | (apart == 0) {
+        let last = self.last.0;
+        if last <= time.0 || self.period == 0 {
             return until;
         }
-        let steps = (last.0 - time.0 - 1) / apart;
-        let next = last.0 - steps * apart;
-        if next < until.0 {
-            return Ticks(next);
-        }
-        until
+        let steps = (last - time.0 - 1) / self.period;
+        let next = last - steps * self.period;
+        Ticks(next.min(until.0))
     }
 }
 
@@ -58,46 +54,32 @@ impl Front {
 fn released(deadline: Ticks, after: Duration) -> Ticks
     ensures { result ≡ ticks (released_at after.0 deadline.0) }
 {
-    let long = after.0 as u64;
-    if deadline.0 < long {
-        return Ticks(0);
-    }
-    Ticks(deadline.0 - long)
+    Ticks(deadline.0.saturating_sub(after.0 as u64))
 }
 
 // A task's front, by its line, its state and its runs' lengths.
+#[tactic(auto, unfolding(crate::specs::Front::front_of))]
 pub fn front_of(line: Line, state: State, work: Work) -> Front
     requires { Frontable line state work }
     ensures { result ≡ front_of line state work }
 {
-    let last = state.last;
-    let apart = line.period;
-    let period = apart.0 as u64;
-    let length = work.lengths[0];
-    let run = work.ended + 1;
+    let none = Front {
+        core: 0,
+        release: Ticks(0),
+        key: 0,
+        length: work.lengths[0],
+        run: work.ended + 1,
+        last: state.last,
+        period: line.period.0 as u64,
+    };
     if state.live == 0 {
-        return Front {
-            core: 0,
-            release: Ticks(0),
-            key: 0,
-            length: length,
-            run: run,
-            last: last,
-            period: period,
-        };
+        return none;
     }
-    let at = state.cores[0];
-    let core = at as usize;
-    let key = state.key(line, core);
-    let deadline = state.deadlines[0];
-    let release = released(deadline, due_after(line));
+    let core = state.cores[0] as usize;
     Front {
-        core: core,
-        release: release,
-        key: key,
-        length: length,
-        run: run,
-        last: last,
-        period: period,
+        core,
+        release: released(state.deadlines[0], due_after(line)),
+        key: state.key(line, core),
+        ..none
     }
 }

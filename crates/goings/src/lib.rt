@@ -3,11 +3,11 @@
 
 ghost use Rattle.std.specs.Prelude.{◌≡◌, ◌*◌, ◌<◌, ◌≤◌, length};
 ghost use Rattle.units.specs.Limits.{cores_limit};
-ghost use Rattle.goings.specs.Going.{going_of, ran_by};
+ghost use Rattle.goings.specs.Going.{same, going_of, ran_by};
 ghost use Rattle.goings.specs.Rows.{going_at, goings_in, put_going};
 ghost use Rattle.goings.specs.Inner.{Addable};
 
-use lent_numbers::store_wide;
+use lent_numbers::store;
 use units::ticks::Ticks;
 
 // The run that has a core, its task from 1, 0 for none, and since when.
@@ -19,18 +19,23 @@ pub struct Going {
 }
 
 impl Going {
+    // It is that run of that task.
+    pub fn is_run(self, task: usize, run: u64) -> bool
+        ensures { result ≡ same self task run }
+    {
+        self.task == task && self.run == run
+    }
+
     // It goes on where the choice is the same run, and else the choice goes from now on.
     pub fn then(self, task: usize, run: u64, time: Ticks) -> Going
         ensures { result ≡ going_of self task run time.0 }
     {
-        let same_task = self.task == task;
-        let same_run = self.run == run;
-        if same_task & same_run {
+        if self.is_run(task, run) {
             return self;
         }
         Going {
-            task: task,
-            run: run,
+            task,
+            run,
             from: time,
         }
     }
@@ -42,13 +47,10 @@ pub fn going_in(goings: &[u64], core: usize) -> Going
     ensures { result ≡ going_at goings.now core }
 {
     let at = 3 * core;
-    let task = goings[at] as usize;
-    let run = goings[at + 1];
-    let from = goings[at + 2];
     Going {
-        task: task,
-        run: run,
-        from: Ticks(from),
+        task: goings[at] as usize,
+        run: goings[at + 1],
+        from: Ticks(goings[at + 2]),
     }
 }
 
@@ -58,26 +60,21 @@ pub fn store_going(goings: &mut [u64], core: usize, going: Going)
     ensures { goings.new ≡ put_going goings.old core going }
 {
     let at = 3 * core;
-    let task = going.task as u64;
-    let from = going.from;
-    store_wide(goings, at, task);
-    store_wide(goings, at + 1, going.run);
-    store_wide(goings, at + 2, from.0);
+    store(goings, at, going.task as u64);
+    store(goings, at + 1, going.run);
+    store(goings, at + 2, going.from.0);
 }
 
 // The ticks that each task's oldest run has had, after so many more for the run that has each core.
+#[tactic(auto, using(crate::proofs::Rows::goings_at, crate::proofs::Ran::ran_fits), unfolding(crate::specs::Going::ran_by))]
 pub fn ran_by(had: &mut [u64], goings: &[u64], cores: usize, more: u64)
     requires { Addable had.old goings.now cores more }
     ensures { had.new ≡ ran_by (goings_in goings.now) more had.old cores }
 {
-    let mut core: usize = 0;
-    while core < cores {
+    for core in 0..cores {
         let task = goings[3 * core] as usize;
         if 0 < task {
-            let i = task - 1;
-            let ran = had[i];
-            had[i] = ran + more;
+            had[task - 1] += more;
         }
-        core += 1;
     }
 }

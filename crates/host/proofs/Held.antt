@@ -4,10 +4,9 @@ use mathlib.Core.Path.{◌≡◌, refl, sym}
 use mathlib.Core.Bool.{Bool, true, false, not}
 use mathlib.Core.Logic.{◌⊎◌, inl, inr}
 use mathlib.Core.List.{List}
-use native.Mathlib.Nat.{sub-zero}
 use native.Mathlib.Omega.{arith}
 use lib.Dec.{eqb}
-use lib.ListN.{length, take, drop, length-append}
+use lib.ListN.{length, take}
 use lib.Seq.{take-append_seam}
 use borrow.Author.Tests.{eqb-true}
 use Rattle.units.specs.Limits.{tasks_limit}
@@ -50,16 +49,14 @@ unfolding held_of
 held_few bytes = by_cases (unread bytes) (λ e. rw e (omega arith)) (λ e. rw e (omega (arith, numbers_length bytes, room bytes e)))
 
 -- the part of the array that is handed to planning lies in it
-pub part_within : (bytes : List ℕ) (t : Table) → t ≡ held_table bytes → t.count ≤ length t.numbers
+pub part_within : (bytes : List ℕ) (t : Table) → t ≡ held_table bytes → t.count ≤ 2 * tasks_limit
 unfolding held_table
-part_within bytes t e =
-    let xs = held_of bytes in
-    rw e (omega (arith, length-append xs (zeros (2 * tasks_limit - length xs)), held_few bytes))
+part_within bytes t e = rw e (held_few bytes)
 
 -- and is the numbers held
-pub part : (bytes : List ℕ) (t : Table) → t ≡ held_table bytes → take (t.count - 0) (drop 0 t.numbers) ≡ held_of bytes
+pub part : (bytes : List ℕ) (t : Table) → t ≡ held_table bytes → take t.count t.numbers ≡ held_of bytes
 unfolding held_table
-part bytes t e = rw (e, sub-zero (length (held_of bytes))) (take-append_seam (held_of bytes) (zeros (2 * tasks_limit - length (held_of bytes))))
+part bytes t e = rw e (take-append_seam (held_of bytes) (zeros (2 * tasks_limit - length (held_of bytes))))
 
 -- they are the table's numbers, or planning refuses both by the same test
 pub held_or : (bytes : List ℕ) → (held_of bytes ≡ table_in bytes) ⊎ (TableOut (held_of bytes) × TableOut (table_in bytes))

@@ -20,13 +20,9 @@ fn numbers_of(bytes: &[u8]) -> [u32; 2 * TASKS]
     requires { length bytes.now ≤ 8 * tasks_limit }
     ensures { result ≡ filled (numbers_of bytes.now) }
 {
-    let n = bytes.len() / 4;
-    let mut numbers = [0u32; 2 * TASKS];
-    let mut k: usize = 0;
-    while k < n {
-        let x = number32(bytes, 4 * k);
-        numbers[k] = x;
-        k += 1;
+    let mut numbers = [0; 2 * TASKS];
+    for k in 0..bytes.len() / 4 {
+        numbers[k] = number32(bytes, 4 * k);
     }
     numbers
 }
@@ -39,13 +35,13 @@ pub(crate) fn table_of(bytes: &[u8]) -> Table
     let out = no_table(n / 4);
     if (n % 4 != 0) | out {
         return Table {
-            numbers: [0u32; 2 * TASKS],
+            numbers: [0; 2 * TASKS],
             count: 0,
         };
     }
     let numbers = numbers_of(bytes);
     Table {
-        numbers: numbers,
+        numbers,
         count: n / 4,
     }
 }

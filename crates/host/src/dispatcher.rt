@@ -24,14 +24,13 @@ pub(crate) struct LentStart {
 }
 
 // The fresh record of a byte table, stored where the record stands; or the refusal, and the record as it was.
+#[tactic(auto, using(crate::proofs::Held::part_within))]
 fn start(held: &mut Record, cores: u32, table: &[u8]) -> u32
     ensures { let a = start_or held.old cores table.now in
         (result ≡ a.refusal) × (held.new ≡ a.next) }
 {
     let read = table_of(table);
-    let numbers = read.numbers;
-    let count = read.count;
-    let fresh = Record::fresh(cores, &numbers[0..count]);
+    let fresh = Record::fresh(cores, &read.numbers[..read.count]);
     let refusal = fresh.refusal;
     if refusal.no == 0 {
         *held = fresh.next;
@@ -121,13 +120,14 @@ fn list_into(held: Record, buf: &mut [u8], len: i64) -> LentList
 {
     let listed = list(held, buf);
     let refused = listed.refusal;
-    let mut written = len;
-    if refused.no == 0 {
-        written = listed.length as i64;
-    }
+    let len = if refused.no == 0 {
+        listed.length as i64
+    } else {
+        len
+    };
     LentList {
         refusal: refused.no,
-        len: written,
+        len,
     }
 }
 

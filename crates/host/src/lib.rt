@@ -15,7 +15,7 @@ pub mod dispatcher;
 fn negative(number: u32) -> i64
     ensures { result ≡ negative_of number }
 {
-    0 - number as i64
+    -i64::from(number)
 }
 
 // A listing's length, or the refusal number made negative.
@@ -30,25 +30,20 @@ fn answer_of(listed: Listed) -> i64
 }
 
 // The admission number of a byte table: 0 or a refusal.
+#[tactic(auto, using(crate::proofs::Held::part_within))]
 pub fn yagomila_admit(cores: u32, table: &[u8]) -> u32
     ensures { result ≡ admit_of cores table.now }
 {
     let held = table_of(table);
-    let numbers = held.numbers;
-    let count = held.count;
-    let answer = admit(cores, &numbers[0..count]);
-    let refusal = answer.refusal;
-    refusal.no
+    admit(cores, &held.numbers[..held.count]).refusal.no
 }
 
 // The listing's length, or the refusal number made negative; on a refusal no byte changes.
+#[tactic(auto, using(crate::proofs::Held::part_within))]
 pub fn yagomila_listing(cores: u32, table: &[u8], buf: &mut [u8]) -> i64
     ensures value { result ≡ host_listed cores table.now (length buf.old) }
     ensures buf_after { buf.new ≡ host_after cores table.now buf.old }
 {
     let held = table_of(table);
-    let numbers = held.numbers;
-    let count = held.count;
-    let listed = list_table(cores, &numbers[0..count], buf);
-    answer_of(listed)
+    answer_of(list_table(cores, &held.numbers[..held.count], buf))
 }

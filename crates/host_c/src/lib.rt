@@ -1,4 +1,5 @@
 // What the box's host, which is written in C, calls: each is `host`'s call of the same name, and promises the same.
+// They stand twice for the C interface: a crate is a library, on which `demands` stands, or a static library, which C links.
 #![tactic(auto)]
 
 ghost use Rattle.std.specs.Prelude.{◌≡◌, length};

@@ -1,17 +1,16 @@
--- One task or one core more.
+-- One task more.
 use Prim.Native.Nat.{ℕ, ◌+◌, ◌-◌}
 use mathlib.Core.Path.{◌≡◌}
-use mathlib.Core.Bool.{Bool, true, false, ◌&&◌}
+use mathlib.Core.Bool.{Bool, true, false}
 use mathlib.Core.List.{List}
 use native.Mathlib.Numerals.{add-one}
-use lib.Dec.{ltb}
 use lib.ListN.{get_or, set}
 use Rattle.units.specs.declared.ticks.Ticks.{Ticks}
 use Rattle.units.specs.Units.{ticks}
 use Rattle.fronts.specs.declared.Front.{Front}
 use Rattle.fronts.specs.Front.{no_front, sees, ahead_of}
 use Rattle.instants.specs.declared.Seen.{Seen}
-use Rattle.instants.specs.Seen.{idle, better, seen_of, next_of, least_left}
+use Rattle.instants.specs.Seen.{idle, better, seen_of, next_of}
 
 module _ (fs : List Front) (t n : ℕ) {f : Front} (own : f ≡ get_or fs n no_front) where
   -- a task that waits is compared on its core
@@ -29,13 +28,3 @@ module _ (fs : List Front) (t n : ℕ) {f : Front} (own : f ≡ get_or fs n no_f
   pub next_more : (v : ℕ) {x y : Ticks} → x ≡ ticks (next_of fs t v n) → y ≡ ticks (ahead_of f t x.0) → y ≡ ticks (next_of fs t v (n + 1))
   unfolding next_of
   next_more v e q = rw (add-one n, ← own) (rw e at q)
-
--- a choice may have less left to run
-module _ (ss : List Seen) (v n : ℕ) {x : ℕ} (e : x ≡ least_left ss v n) where
-  pub least_less : (ltb 0 (get_or ss n idle).task && ltb (get_or ss n idle).left x) ≡ true → {y : ℕ} → y ≡ (get_or ss n idle).left → y ≡ least_left ss v (n + 1)
-  unfolding least_left
-  least_less t q = rw (add-one n, ← e, t, q)
-
-  pub least_same : (ltb 0 (get_or ss n idle).task && ltb (get_or ss n idle).left x) ≡ false → {y : ℕ} → y ≡ x → y ≡ least_left ss v (n + 1)
-  unfolding least_left
-  least_same t q = rw (add-one n, ← e, t, q)

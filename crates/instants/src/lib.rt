@@ -33,16 +33,12 @@ impl Seen {
     fn better(self, task: usize, front: Front, had: u64) -> Seen
         ensures { result ≡ better self task front had }
     {
-        if (self.task == 0) | (front.key < self.key) {
-            let mut left = 0;
-            if had < front.length {
-                left = front.length - had;
-            }
+        if self.task == 0 || front.key < self.key {
             return Seen {
-                task: task,
+                task,
                 key: front.key,
                 run: front.run,
-                left: left,
+                left: front.length.saturating_sub(had),
             };
         }
         self
@@ -57,6 +53,7 @@ pub struct Instant {
 }
 
 // One scan of the tasks for all cores.
+#[tactic(auto, unfolding(crate::specs::Seen::seen_of, crate::specs::Seen::next_of))]
 pub fn scan(fronts: &[u64], had: &[u64], count: usize, time: Ticks, until: Ticks) -> Instant
     requires { (count ≤ tasks_limit) × (length fronts.now ≡ 7 * tasks_limit) × (length had.now ≡ tasks_limit) }
     ensures seen_value { result.seen ≡ seen_of (fronts_in fronts.now) had.now time.0 count }
@@ -64,37 +61,28 @@ pub fn scan(fronts: &[u64], had: &[u64], count: usize, time: Ticks, until: Ticks
 {
     let mut seen = [Seen::IDLE; CORES];
     let mut next = until;
-    let mut i: usize = 0;
-    while i < count {
+    for i in 0..count {
         let front = front_in(fronts, i);
-        let ran = had[i];
-        i += 1;
         if front.sees(time) {
             let k = front.core - 1;
-            let best = seen[k];
-            seen[k] = best.better(i, front, ran);
+            seen[k] = seen[k].better(i + 1, front, had[i]);
         }
         next = front.ahead(time, next);
     }
-    Instant {
-        seen: seen,
-        next: next,
-    }
+    Instant { seen, next }
 }
 
 // The least that a choice still has to run, or less where that is given.
+#[tactic(auto, unfolding(crate::specs::Seen::least_left))]
 pub fn least_left(seen: [Seen; CORES], cores: usize, most: u64) -> u64
     requires { cores ≤ cores_limit }
     ensures { result ≡ least_left seen most cores }
 {
     let mut least = most;
-    let mut k: usize = 0;
-    while k < cores {
-        let one = seen[k];
-        if (0 < one.task) & (one.left < least) {
-            least = one.left;
+    for one in &seen[..cores] {
+        if 0 < one.task {
+            least = least.min(one.left);
         }
-        k += 1;
     }
     least
 }

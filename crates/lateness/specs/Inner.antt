@@ -8,6 +8,7 @@ use Rattle.arith.specs.Ceiling.{ceil_div}
 use Rattle.task_shares.specs.Movers.{first_core}
 use Rattle.planning.specs.declared.Line.{Line}
 use Rattle.planning.specs.Plan.{row_of}
+use Rattle.lateness.specs.declared.bounds.Note.{Note}
 use Rattle.lateness.specs.declared.movers.Mover.{Mover}
 use Rattle.lateness.specs.declared.movers.Movers.{Movers}
 use Rattle.lateness.specs.Lateness.{upper_on, lower_on, share_on}
@@ -45,17 +46,17 @@ reach_by l rs h m = ceil_div (push_by rs h + l * (2 * h.cost.0 + m.cost.0)) (l -
 abbrev pub pair_late : ℕ → List ℕ → Mover → Mover → ℕ
 pair_late l rs h m = ceil_div (push_by rs h + push_by rs m + l * (2 * h.cost.0 + 2 * m.cost.0)) (l - h.share.0 - m.share.0)
 
--- a task's bound from the reaches of movers and the bounds of fixed tasks: it moves or not, with the period t and the first core p
-abbrev pub late_at : List ℕ → List ℕ → Bool → ℕ → ℕ → ℤ
-late_at rs fixed m t p = cond m (sub_ℕ (get_or rs p 0) t) (pos (get_or fixed p 0))
+-- what stands past the last task
+abbrev pub no_note : Note
+no_note = record { moves = false; period = duration 0; first = 0 }
 
--- that of task i, from what is noted of each
-abbrev pub lates_at : List ℕ → List ℕ → List Bool → List ℕ → List ℕ → ℕ → ℤ
-lates_at rs fixed ms ts ps i = late_at rs fixed (get_or ms i false) (get_or ts i 0) (get_or ps i 0)
+-- a task's bound from the reaches of movers and the bounds of fixed tasks
+abbrev pub late_at : List ℕ → List ℕ → Note → ℤ
+late_at rs fixed n = cond n.moves (sub_ℕ (get_or rs n.first 0) n.period.0) (pos (get_or fixed n.first 0))
 
--- each bound is its task's
-abbrev pub EachLate : List ℕ → List ℕ → List Bool → List ℕ → List ℕ → List ℤ → Type 0
-EachLate rs fixed ms ts ps lates = (i : ℕ) → i < tasks_limit → get_or lates i (pos 0) ≡ lates_at rs fixed ms ts ps i
+-- each bound is its task's, from what is noted of it
+abbrev pub EachLate : List ℕ → List ℕ → List Note → List ℤ → Type 0
+EachLate rs fixed notes lates = (i : ℕ) → i < tasks_limit → get_or lates i (pos 0) ≡ late_at rs fixed (get_or notes i no_note)
 
 -- a mover's reach, at most
 abbrev pub reach_limit : ℕ
@@ -79,13 +80,11 @@ pub record PairInRange (l : ℕ) (rs : List ℕ) (h m : Mover) : Type 0 where
   pub upper : MoverInRange rs h
   pub lower : MoverInRange rs m
 
--- all that bounds are worked out from: whether a task moves, its period and its first core, the reaches of movers and the bounds of fixed tasks
-pub record BoundsReady (moving : List Bool) (periods firsts rs fixed : List ℕ) : Type 0 where
-  pub moving_long : length moving ≡ tasks_limit
-  pub periods_long : length periods ≡ tasks_limit
-  pub firsts_long : length firsts ≡ tasks_limit
+-- all that bounds are worked out from: what is noted of each task, the reaches of movers and the bounds of fixed tasks
+pub record BoundsReady (notes : List Note) (rs fixed : List ℕ) : Type 0 where
+  pub notes_long : length notes ≡ tasks_limit
   pub reaches_long : length rs ≡ cores_limit
   pub fixed_long : length fixed ≡ cores_limit
-  pub period : (i : ℕ) → get_or periods i 0 ≤ period_limit
+  pub period : (i : ℕ) → (get_or notes i no_note).period.0 ≤ period_limit
   pub reach : (p : ℕ) → get_or rs p 0 ≤ late_limit
   pub late : (p : ℕ) → get_or fixed p 0 ≤ late_limit

@@ -12,13 +12,30 @@ use planning::Plan;
 use task_shares::rows::{first_core, parts_of};
 use task_shares::standing::moves_by;
 use units::limits::{CORES, TASKS};
+use units::ticks::Duration;
+
+// What is noted of a task: whether it moves, its period and its first core.
+#[derive(Clone, Copy)]
+struct Note {
+    moves: bool,
+    period: Duration,
+    first: usize,
+}
+
+impl Note {
+    const NONE: Note = Note {
+        moves: false,
+        period: Duration(0),
+        first: CORES,
+    };
+}
 
 // What stands at a core, 0 where there is no such core.
 fn at(numbers: &[u64; CORES], p: usize) -> u64
     requires { length numbers.now ≡ cores_limit }
     ensures { result ≡ get_or numbers.now p 0 }
 {
-    if p < CORES { numbers[p] } else { 0 }
+    numbers.get(p).copied().unwrap_or(0)
 }
 
 // s × (D + 2T) of a mover, from the reaches by first core.
@@ -26,8 +43,7 @@ fn push(reaches: &[u64; CORES], mover: Mover) -> u64
     requires { (length reaches.now ≡ cores_limit) × MoverInRange reaches.now mover }
     ensures { result ≡ push_by reaches.now mover }
 {
-    let reach = at(reaches, mover.first);
-    mover.share.0 as u64 * (reach + mover.period.0 as u64)
+    mover.share.0 as u64 * (at(reaches, mover.first) + mover.period.0 as u64)
 }
 
 // The reach of a core's lower mover, (s × (D + 2T) + L × (2C' + C)) / (L − s) rounded up, with the upper mover's s, D, T and C'.
@@ -59,13 +75,8 @@ fn reaches_of(plan: Plan, movers: Movers) -> [u64; CORES]
     ensures { result ≡ reaches_of plan.common plan.lines cores_limit }
 {
     let mut reaches = [0u64; CORES];
-    let mut p: usize = 0;
-    while p < CORES {
-        let upper = movers.upper[p];
-        let lower = movers.lower[p];
-        let reach = reach_on(plan.common, &reaches, upper, lower);
-        reaches[p] = reach;
-        p += 1;
+    for p in 0..CORES {
+        reaches[p] = reach_on(plan.common, &reaches, movers.upper[p], movers.lower[p]);
     }
     reaches
 }
@@ -76,54 +87,34 @@ fn fixed_of(plan: Plan, movers: Movers, reaches: &[u64; CORES]) -> [u64; CORES]
     ensures { (p : ℕ) → get_or result p 0 ≡ fixed_late plan.common reaches.now plan.lines p }
 {
     let mut bounds = [0u64; CORES];
-    let mut p: usize = 0;
-    while p < CORES {
-        let upper = movers.upper[p];
-        let lower = movers.lower[p];
-        bounds[p] = fixed_on(plan.common, reaches, upper, lower);
-        p += 1;
+    for p in 0..CORES {
+        bounds[p] = fixed_on(plan.common, reaches, movers.upper[p], movers.lower[p]);
     }
     bounds
 }
 
 // A task's bound: a mover's reach less its period, or the bound of its core's fixed tasks.
-fn late_at(
-    moves: bool,
-    period: u32,
-    first: usize,
-    reaches: &[u64; CORES],
-    fixed: &[u64; CORES],
-) -> i64
+fn late_at(note: Note, reaches: &[u64; CORES], fixed: &[u64; CORES]) -> i64
     requires reaches_len { (length reaches.now ≡ cores_limit) × (length fixed.now ≡ cores_limit) }
-    requires period_le_period_limit { (period ≤ period_limit) × (get_or reaches.now first 0 ≤ late_limit) × (get_or fixed.now first 0 ≤ late_limit) }
-    ensures { result ≡ late_at reaches.now fixed.now moves period first }
+    requires period_le_period_limit { note.period.0 ≤ period_limit }
+    requires at_le_late_limit { (get_or reaches.now note.first 0 ≤ late_limit) × (get_or fixed.now note.first 0 ≤ late_limit) }
+    ensures { result ≡ late_at reaches.now fixed.now note }
 {
-    if moves {
-        return at(reaches, first) as i64 - period as i64;
+    if note.moves {
+        at(reaches, note.first) as i64 - note.period.0 as i64
+    } else {
+        at(fixed, note.first) as i64
     }
-    at(fixed, first) as i64
 }
 
-// The bounds of tasks: whether each moves, its period and its first core.
-fn lates_of(
-    moving: &[bool; TASKS],
-    periods: &[u32; TASKS],
-    firsts: &[usize; TASKS],
-    reaches: &[u64; CORES],
-    fixed: &[u64; CORES],
-) -> [i64; TASKS]
-    requires { BoundsReady moving.now periods.now firsts.now reaches.now fixed.now }
-    ensures { EachLate reaches.now fixed.now moving.now periods.now firsts.now result }
+// The bounds of tasks, from what is noted of each.
+fn lates_of(notes: &[Note; TASKS], reaches: &[u64; CORES], fixed: &[u64; CORES]) -> [i64; TASKS]
+    requires { BoundsReady notes.now reaches.now fixed.now }
+    ensures { EachLate reaches.now fixed.now notes.now result }
 {
     let mut lates = [0i64; TASKS];
-    let mut i: usize = 0;
-    while i < TASKS {
-        let moves = moving[i];
-        let period = periods[i];
-        let first = firsts[i];
-        let late = late_at(moves, period, first, reaches, fixed);
-        lates[i] = late;
-        i += 1;
+    for i in 0..TASKS {
+        lates[i] = late_at(notes[i], reaches, fixed);
     }
     lates
 }
@@ -135,32 +126,25 @@ pub fn bounds_of(plan: Plan) -> [i64; TASKS]
 {
     let mut upper = [Mover::NONE; CORES];
     let mut lower = [Mover::NONE; CORES];
-    let mut moving = [false; TASKS];
-    let mut periods = [0u32; TASKS];
-    let mut firsts = [CORES; TASKS];
-    let mut i = plan.count;
-    while 0 < i {
-        i -= 1;
+    let mut notes = [Note::NONE; TASKS];
+    for i in (0..plan.count).rev() {
         let line = plan.lines[i];
         let shares = line.shares;
         let moves = moves_by(parts_of(shares));
         let first = first_core(shares);
-        moving[i] = moves;
-        periods[i] = line.period.0;
-        firsts[i] = first;
+        notes[i] = Note {
+            moves,
+            period: line.period,
+            first,
+        };
         if moves {
-            let s = shares[first];
-            let mover = mover_on(s, line, first);
-            lower[first] = mover;
+            lower[first] = mover_on(shares[first], line, first);
             let above = with_line(upper, line, first);
             upper = above;
         }
     }
-    let movers = Movers {
-        upper: upper,
-        lower: lower,
-    };
+    let movers = Movers { upper, lower };
     let reaches = reaches_of(plan, movers);
     let fixed = fixed_of(plan, movers, &reaches);
-    lates_of(&moving, &periods, &firsts, &reaches, &fixed)
+    lates_of(&notes, &reaches, &fixed)
 }

@@ -40,13 +40,11 @@ pub(crate) struct Movers {
 pub(crate) fn mover_on(share: Share, line: Line, first: usize) -> Mover
     ensures { result ≡ mover share line first }
 {
-    let cost = line.cost;
-    let period = line.period;
     Mover {
-        share: share,
-        cost: cost,
-        period: period,
-        first: first,
+        share,
+        cost: line.cost,
+        period: line.period,
+        first,
     }
 }
 
@@ -55,17 +53,12 @@ pub(crate) fn with_line(above: [Mover; CORES], line: Line, first: usize) -> [Mov
     requires { (1 < parts (row_of line)) × (first ≡ first_core (row_of line)) }
     ensures { InFront (λ p. upper p (row_of line)) line above result }
 {
-    let shares = line.shares;
     let mut movers = above;
-    let mut p: usize = 0;
-    while p < CORES {
-        let s = shares[p];
-        let standing = stands(true, s, first, p);
-        if let Standing::Upper = standing {
-            let mover = mover_on(s, line, first);
-            movers[p] = mover;
+    for p in 0..CORES {
+        let share = line.shares[p];
+        if let Standing::Upper = stands(true, share, first, p) {
+            movers[p] = mover_on(share, line, first);
         }
-        p += 1;
     }
     movers
 }

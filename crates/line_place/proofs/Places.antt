@@ -1,15 +1,17 @@
 -- The equations of the first line that starts with a word, as the code meets them.
-use Prim.Native.Nat.{ℕ, suc, ◌+◌, ◌-◌, ◌≤◌, ◌<◌}
-use mathlib.Core.Path.{◌≡◌, refl, sym, ◌∙◌}
-use mathlib.Core.Bool.{true, false}
+use Rattle.std.specs.declared.option.Option.{Option}
+use Rattle.std.specs.declared.option.Option.TheVariants.{Some, None}
+use Rattle.std.specs.List.{find, range_with_len}
+use Rattle.std.specs.Option.{is_some, unwrap_or, option_map}
+use Prim.Native.Nat.{ℕ, zero, suc, ◌+◌}
+use mathlib.Core.Path.{◌≡◌, refl, sym, ap, ◌∙◌}
+use mathlib.Core.Bool.{Bool, true, false, cond}
 use mathlib.Core.List.{List}
-use native.Mathlib.Nat.{sub-zero}
 use native.Mathlib.Omega.{arith}
-use lib.ListN.{length}
-use Rattle.scanning.specs.Word.{word_at}
-use Rattle.line_place.specs.Place.{line_starts, line_here, first_place, line_place}
-use Rattle.scanning.specs.declared.word.Word.TheVariants.{After, NoWord}
-use Rattle.scanning.proofs.Words.{word_here, word_none}
+use lib.ListN.{drop}
+use Rattle.lists.proofs.Tests.{by_cases}
+use Rattle.scanning.specs.Word.{Word, starts, word_at}
+use Rattle.line_place.specs.Place.{line_starts, line_here, first_place}
 
 module _ (w s : List ℕ) (at : ℕ) where
   -- no line starts there
@@ -17,43 +19,26 @@ module _ (w s : List ℕ) (at : ℕ) where
   unfolding line_here
   no_start e = rw e refl
 
-  module _ (e : line_starts s at ≡ true) where
-    -- another line
-    pub not_here : word_at w s at ≡ NoWord → false ≡ line_here w s at
-    unfolding line_here
-    not_here h = rw (e, word_none w s at h) refl
+  -- where one starts, it is whether the word was read there
+  pub word_read : {r : Word} → line_starts s at ≡ true → r ≡ word_at w s at → is_some r ≡ line_here w s at
+  unfolding line_here word_at
+  word_read e p = rw (e, p) (if_some _ (starts w (drop at s)))
+    where
+      if_some : (n : ℕ) (b : Bool) → is_some (cond b (Some n) None) ≡ b
+      if_some n true = refl
+      if_some n false = refl
 
-    -- a line that starts with the word
-    pub is_here : {next : ℕ} → word_at w s at ≡ After next → true ≡ line_here w s at
-    unfolding line_here
-    is_here h = rw (e, (word_here w s at h).0) refl
+-- of n places from one on, with what stands for none
+found_from : (f : ℕ → Bool) (n at end : ℕ) → end ≡ at + n → unwrap_or (find f (range_with_len at n)) end ≡ first_place f n at
+unfolding first_place
+found_from f zero at end e = omega arith
+found_from f (suc n) at end e = by_cases (f at) (λ h. rw h refl) (λ h. rw h (found_from f n (at + 1) end (omega arith)))
 
--- while the first line that starts with the word is looked for: from a place on it is the same
-pub record Seeking (w s : List ℕ) (at : ℕ) : Type 0 where
-  pub within : at ≤ length s
-  pub same : line_place w s ≡ first_place (line_here w s) (length s - at) at
+-- each as itself
+same_lem : (r : Option ℕ) → option_map (λ x. x) r ≡ r
+same_lem (Some x) = refl
+same_lem None = refl
 
--- it is looked for from the first place on
-pub first : (w s : List ℕ) → Seeking w s 0
-unfolding line_place
-first w s = record { within = omega arith; same = rw (sub-zero (length s)) refl }
-
-module _ (w s : List ℕ) (at : ℕ) (h : Seeking w s at) where
-  -- it is here
-  pub found : at < length s → line_here w s at ≡ true → at ≡ line_place w s
-  unfolding first_place
-  found k e =
-      let z : length s - at ≡ suc (length s - (at + 1)) = omega arith in
-      sym (h.same ∙ rw (z, e) refl)
-
-  -- it is not
-  pub passed : at < length s → line_here w s at ≡ false → Seeking w s (at + 1)
-  unfolding first_place
-  passed k e =
-      let z : length s - at ≡ suc (length s - (at + 1)) = omega arith in
-      record { within = omega arith; same = h.same ∙ rw (z, e) refl }
-
-  -- there is none
-  pub none : length s ≤ at → at ≡ line_place w s
-  unfolding first_place
-  none k = let z : length s - at ≡ 0 = omega arith in sym (h.same ∙ rw z refl)
+-- of the n first places, where the code finds one or none
+pub first_found : (f : ℕ → Bool) (n : ℕ) (r : Option ℕ) → option_map (λ x. x) r ≡ find f (range_with_len 0 n) → unwrap_or r n ≡ first_place f n 0
+first_found f n r e = ap (λ (q : Option ℕ). unwrap_or q n) (sym (same_lem r) ∙ e) ∙ found_from f n 0 n (omega arith)

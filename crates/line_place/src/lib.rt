@@ -4,7 +4,7 @@
 ghost use Rattle.std.specs.Prelude.{◌≡◌, ◌<◌, ◌≤◌, length};
 ghost use Rattle.line_place.specs.Place.{line_starts, line_here, line_place};
 
-use scanning::word::{Word, read_word};
+use scanning::word::read_word;
 use writing::NEWLINE;
 
 // Whether a line starts at a place.
@@ -24,13 +24,7 @@ fn line_here(text: &[u8], at: usize, word: &[u8]) -> bool
     requires { at < length text.now }
     ensures { result ≡ line_here word.now text.now at }
 {
-    if !line_starts(text, at) {
-        return false;
-    }
-    match read_word(text, at, word) {
-        Word::NoWord => false,
-        Word::After(next) => true,
-    }
+    line_starts(text, at) && read_word(text, at, word).is_some()
 }
 
 // Where the first line that starts with a word stands, and the text's end if there is none.
@@ -38,12 +32,7 @@ pub fn line_place(text: &[u8], word: &[u8]) -> usize
     ensures value { result ≡ line_place word.now text.now }
     ensures upper_bound { result ≤ length text.now }
 {
-    let mut at = 0;
-    while at < text.len() {
-        if line_here(text, at, word) {
-            return at;
-        }
-        at += 1;
-    }
-    at
+    (0..text.len())
+        .find(|at| line_here(text, *at, word))
+        .unwrap_or(text.len())
 }

@@ -1,31 +1,23 @@
 -- The listing's pieces in the form in which the writers meet them.
-use Prim.Native.Nat.{ℕ, zero, suc, ◌+◌, ◌≤◌, ◌<◌}
+use Prim.Native.Nat.{ℕ, zero, suc, ◌+◌}
 use mathlib.Core.Path.{◌≡◌, refl, sym, ap, ◌∙◌}
 use mathlib.Core.List.{List, [], ◌∷◌, ◌++◌, append_assoc, append-nil}
-use mathlib.Core.Bool.{Bool, cond}
+use mathlib.Core.Bool.{true, false}
 use native.Mathlib.Nat.{add-zero}
 use native.Mathlib.Numerals.{add-one}
 use native.Mathlib.Omega.{arith}
-use borrow.Author.Tests.{ne_eqb, lt-ltb, le-ltb}
+use borrow.Author.Tests.{ne_eqb}
 use lib.IntN.{ℤ, pos}
-use lib.Dec.{ltb, eqb}
-use lib.ListN.{length, get_or, take, drop, length-drop, length-map}
-use lib.Seq.{drop-cons}
+use lib.Dec.{ltb}
+use lib.ListN.{get_or, take}
 use Rattle.units.specs.declared.share.Share.{Share}
 use Rattle.units.specs.Units.{share, nums}
-use Rattle.units.proofs.Units.{nums_at}
-use Rattle.lists.specs.Lists.{parts, first_part, bit}
-use Rattle.lists.proofs.Tests.{by_cases}
-use Rattle.lists.proofs.Lists.{parts_cons, parts_len}
+use Rattle.lists.specs.Lists.{parts}
 use Rattle.writing.specs.Ascii.{ascii}
 use Rattle.planning.specs.declared.Line.{Line}
 use Rattle.planning.specs.Plan.{no_line}
 use Rattle.writing.specs.Field.{field}
 use Rattle.listing.specs.Listing.{share_text, shares_text, row_text, task_text, tasks_text}
-
--- no share, no text
-pub share_none : (p s : ℕ) → s ≡ 0 → [] ≡ share_text p s
-share_none p s e = rw e
 
 -- the text of a positive share
 pub share_some : (p s : ℕ) → (s ≡ 0 → ⊥) → field " " p ++ field ":" s ≡ share_text p s
@@ -50,69 +42,15 @@ cores_more ss k =
     ∙ shares_more 1 ss k
     ∙ ap (λ (m : ℕ). shares_text 1 (nums (take m ss))) (sym (add-one k))
 
--- before the first part there is no text
-pub first_text_lem : (q : ℕ) (ss : List Share) → [] ≡ shares_text q (nums (take (first_part (nums ss)) ss))
-first_text_lem q [] = refl
-first_text_lem q (s ∷ ss) = by_cases (eqb s.0 0) (λ t. rw t (rw t (first_text_lem (suc q) ss))) (λ t. rw t)
-
--- and no other part
-pub first_left : (row : List ℕ) → parts row ≡ parts (drop (first_part row) row)
-first_left [] = refl
-first_left (x ∷ row) =
-    by_cases (eqb x 0)
-    (λ t. rw t (first_left row))
-    (λ t. ap (λ (b : Bool). parts (drop (cond b (suc (first_part row)) 0) (x ∷ row))) (sym t))
-
--- it is one of the cores, or past the last
-pub first_in : (row : List ℕ) → first_part row ≤ length row
-first_in [] = omega arith
-first_in (x ∷ row) = by_cases (eqb x 0) (λ t. rw t (omega (arith, first_in row))) (λ t. rw t (omega arith))
-
--- with no part left there is no text left
-none_text : (q : ℕ) (row : List ℕ) → parts row ≡ 0 → [] ≡ shares_text q row
-none_text q [] e = refl
-none_text q (x ∷ row) e =
-    by_cases (eqb x 0) (λ t. rw t (none_text (suc q) row (rw t at e))) (λ t. absurd (omega (arith, rw t at e)))
-
-done_from : (q : ℕ) (ss : List Share) (k : ℕ) → parts (drop k (nums ss)) ≡ 0 → shares_text q (nums (take k ss)) ≡ shares_text q (nums ss)
-done_from q [] zero e = refl
-done_from q [] (suc k) e = refl
-done_from q (s ∷ ss) zero e = none_text q (nums (s ∷ ss)) e
-done_from q (s ∷ ss) (suc k) e = ap (λ (t : List ℕ). share_text q s.0 ++ t) (done_from (suc q) ss k e)
-
-pub shares_done : (ss : List Share) (k : ℕ) → parts (drop k (nums ss)) ≡ 0 → shares_text 1 (nums (take k ss)) ≡ shares_text 1 (nums ss)
-shares_done = done_from 1
-
--- with one left there is a core left
-pub part_there : (ss : List Share) (k : ℕ) → 0 < parts (drop k (nums ss)) → k < length ss
-part_there ss k h =
-    let row : List ℕ = nums ss in
-    omega (arith, parts_len (drop k row), length-drop k row, length-map ss (λ (s : Share). s.0))
-
-module _ (ss : List Share) (k : ℕ) (h : k < length ss) where
-  -- what is left from core k on
-  part_next : parts (drop k (nums ss)) ≡ bit (ltb 0 (get_or ss k (share 0)).0) + parts (drop (k + 1) (nums ss))
-  part_next =
-      rw (add-one k, drop-cons (nums ss) k 0 (omega (arith, h, length-map ss (λ (s : Share). s.0))), nums_at ss k)
-      (parts_cons (get_or ss k (share 0)).0 (drop (suc k) (nums ss)))
-
-  -- a positive share is one of them
-  pub part_less : 0 < (get_or ss k (share 0)).0 → parts (drop k (nums ss)) ≡ parts (drop (k + 1) (nums ss)) + 1
-  part_less e = omega (arith, part_next, ap bit (lt-ltb 0 (get_or ss k (share 0)).0 e))
-
-  -- no share is none
-  pub part_same : (get_or ss k (share 0)).0 ≤ 0 → parts (drop k (nums ss)) ≡ parts (drop (k + 1) (nums ss))
-  part_same e = omega (arith, part_next, ap bit (le-ltb 0 (get_or ss k (share 0)).0 e))
-
--- the row of a task that moves
-pub row_moves : (row : List ℕ) → 1 < parts row → ascii " moves" ++ shares_text 1 row ≡ row_text row
+-- the row of a task that moves, by how many parts it has
+pub row_moves : (row : List ℕ) {n : ℕ} → n ≡ parts row → true ≡ ltb 1 n → ascii " moves" ++ shares_text 1 row ≡ row_text row
 unfolding row_text
-row_moves row h = rw (lt-ltb 1 (parts row) h)
+row_moves row e t = rw (sym (t ∙ ap (ltb 1) e)) refl
 
 -- the row of a task that does not
-pub row_fixed : (row : List ℕ) → parts row ≤ 1 → ascii " fixed" ++ shares_text 1 row ≡ row_text row
+pub row_fixed : (row : List ℕ) {n : ℕ} → n ≡ parts row → false ≡ ltb 1 n → ascii " fixed" ++ shares_text 1 row ≡ row_text row
 unfolding row_text
-row_fixed row h = rw (le-ltb 1 (parts row) h)
+row_fixed row e t = rw (sym (t ∙ ap (ltb 1) e)) refl
 
 -- the lines of one task more
 pub tasks_more : (ls : List Line) (lates : List ℤ) (n : ℕ) →

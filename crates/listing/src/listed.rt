@@ -25,7 +25,7 @@ fn unlisted(no: u32) -> Listed
     ensures { result ≡ unlisted_by (refusal_of no 0) }
 {
     Listed {
-        refusal: Refusal { no: no, named: 0 },
+        refusal: Refusal { no, named: 0 },
         length: 0,
     }
 }
@@ -41,7 +41,7 @@ pub fn list_plan(plan: Plan, buf: &mut [u8]) -> Listed
         let length = put_plan(buf, plan, lates);
         return Listed {
             refusal: Refusal::NONE,
-            length: length,
+            length,
         };
     }
     let mut one = [0u8; 1];
@@ -64,8 +64,7 @@ pub fn list(from: Record, buf: &mut [u8]) -> Listed
     if !from.sound() {
         return unlisted(Refusal::UNSOUND);
     }
-    let plan = from.plan;
-    list_plan(plan, buf)
+    list_plan(from.plan, buf)
 }
 
 // The listing of a table's plan, for the program and the host; or planning's refusal or 14, and no byte changed.
@@ -76,11 +75,7 @@ pub fn list_table(cores: u32, table: &[u32], buf: &mut [u8]) -> Listed
     let planned = plan_of(cores, table);
     let refusal = planned.refusal;
     if refusal.no != 0 {
-        return Listed {
-            refusal: refusal,
-            length: 0,
-        };
+        return Listed { refusal, length: 0 };
     }
-    let plan = planned.plan;
-    list_plan(plan, buf)
+    list_plan(planned.plan, buf)
 }

@@ -2,14 +2,13 @@
 ghost use Rattle.std.specs.Prelude.{◌≡◌, ◌+◌, ◌≤◌};
 ghost use Rattle.units.specs.Limits.{tasks_limit};
 ghost use Rattle.units.specs.Units.{nums};
-ghost use Rattle.lists.specs.Lists.{parts as parts_of};
 ghost use Rattle.writing.specs.Inner.{place_limit};
 ghost use Rattle.writing.specs.Wrote.{Wrote};
 ghost use Rattle.lateness.specs.Lateness.{lates_of};
 ghost use Rattle.listing.specs.Listing.{share_text, shares_text, head_text, row_text, late_text, task_text, first_text, listing_text};
 
 use planning::{Line, Plan};
-use task_shares::rows::{first_core, parts_of};
+use task_shares::rows::parts_of;
 use task_shares::standing::moves_by;
 use units::limits::{CORES, TASKS};
 use units::share::Share;
@@ -28,22 +27,15 @@ fn put_share(buf: &mut [u8], at: usize, core: usize, share: Share) -> usize
     put_field(buf, next, b":", share.0 as u64)
 }
 
-// The positive shares of a row, of which there are so many: before the first of them and past the last no core is looked at.
-fn put_shares(buf: &mut [u8], at: usize, shares: [Share; CORES], parts: usize) -> usize
-    requires { (at + 800 ≤ place_limit) × (parts ≡ parts_of (nums shares)) }
+// The positive shares of a row.
+fn put_shares(buf: &mut [u8], at: usize, shares: [Share; CORES]) -> usize
+    requires { at + 800 ≤ place_limit }
     ensures wrote { Wrote buf.old at (shares_text 1 (nums shares)) buf.new result }
     ensures upper_bound { result ≤ at + 800 }
 {
     let mut next = at;
-    let mut left = parts;
-    let mut p = first_core(shares);
-    while 0 < left {
-        let s = shares[p];
-        next = put_share(buf, next, p + 1, s);
-        if 0 < s.0 {
-            left -= 1;
-        }
-        p += 1;
+    for (p, share) in shares.iter().enumerate() {
+        next = put_share(buf, next, p + 1, *share);
     }
     next
 }
@@ -54,14 +46,12 @@ fn put_row(buf: &mut [u8], at: usize, shares: [Share; CORES]) -> usize
     ensures wrote { Wrote buf.old at (row_text (nums shares)) buf.new result }
     ensures upper_bound { result ≤ at + 806 }
 {
-    let parts = parts_of(shares);
-    if moves_by(parts) {
-        let next = put_text(buf, at, b" moves");
-        put_shares(buf, next, shares, parts)
+    let next = if moves_by(parts_of(shares)) {
+        put_text(buf, at, b" moves")
     } else {
-        let next = put_text(buf, at, b" fixed");
-        put_shares(buf, next, shares, parts)
-    }
+        put_text(buf, at, b" fixed")
+    };
+    put_shares(buf, next, shares)
 }
 
 // A task's number, cost, period and weight.
@@ -93,9 +83,8 @@ fn put_task(buf: &mut [u8], at: usize, i: usize, line: Line, late: i64) -> usize
     ensures wrote { Wrote buf.old at (task_text i line late) buf.new result }
     ensures upper_bound { result ≤ at + 1000 }
 {
-    let shares = line.shares;
     let a = put_head(buf, at, i, line);
-    let b = put_row(buf, a, shares);
+    let b = put_row(buf, a, line.shares);
     put_late(buf, b, late)
 }
 
@@ -116,12 +105,8 @@ pub(crate) fn put_plan(buf: &mut [u8], plan: Plan, lates: [i64; TASKS]) -> usize
     ensures upper_bound { result ≤ 100000 }
 {
     let mut next = put_first(buf, plan.cores, plan.common);
-    let mut i: usize = 0;
-    while i < plan.count {
-        let line = plan.lines[i];
-        let late = lates[i];
-        next = put_task(buf, next, i + 1, line, late);
-        i += 1;
+    for i in 0..plan.count {
+        next = put_task(buf, next, i + 1, plan.lines[i], lates[i]);
     }
     next
 }

@@ -6,3 +6,4 @@ pub mod Rows
 pub mod Filled
 pub mod Below
 pub mod Tabled
+pub mod Moved

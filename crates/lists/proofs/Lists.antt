@@ -1,6 +1,6 @@
 -- Laws of the small functions on lists.
 use Prim.Native.Nat.{ℕ, zero, suc, ◌+◌, ◌-◌, ◌≤◌, ◌<◌}
-use mathlib.Core.Path.{◌≡◌, refl, ap}
+use mathlib.Core.Path.{◌≡◌, refl, ap, ◌∙◌}
 use mathlib.Core.Logic.{⊎_elim}
 use mathlib.Core.List.{List, [], ◌∷◌}
 use native.Mathlib.Omega.{arith}
@@ -8,6 +8,8 @@ use native.Mathlib.Nat.{sub-zero, zero-sub, suc-sub-suc}
 use lib.Dec.{ltb, leb, eqb-suc-zero}
 use lib.ListN.{length, get_or, take, drop, set}
 use borrow.Author.Tests.{ltb-true, ltb-false, lt-ltb, leb-true, leb-false}
+use Rattle.std.specs.Prelude.{sum}
+use Rattle.std.proofs.lemmas.List.Sums.{sum_by-cons}
 use Rattle.lists.specs.Lists.{zeros, total, most, at_most, parts, bit}
 use Rattle.lists.proofs.Tests.{by_cases, bit_cases}
 
@@ -132,3 +134,8 @@ parts_set (w ∷ ws) (suc t) h = omega (arith, parts_cons w ws, parts_cons w (se
 pub parts_len : (r : List ℕ) → parts r ≤ length r
 parts_len [] = omega arith
 parts_len (x ∷ r) = ⊎_elim (λ h. omega (arith, parts_cons x r, parts_len r)) (λ h. omega (arith, parts_cons x r, parts_len r)) (bit_cases (ltb 0 x))
+
+-- the sum is the library's
+pub total_is : (xs : List ℕ) → sum xs ≡ total xs
+total_is [] = refl
+total_is (x ∷ xs) = sum_by-cons (λ (y : ℕ). y) x xs ∙ ap (λ (n : ℕ). x + n) (total_is xs)

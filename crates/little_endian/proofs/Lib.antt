@@ -1,2 +1,1 @@
-pub mod At
 pub mod Settled

@@ -8,14 +8,7 @@ ghost use Rattle.little_endian.specs.Number.{number, number32_at, farthest};
 fn byte_at(bytes: &[u8], at: usize) -> u8
     ensures { result ≡ get_or bytes.now at 0 }
 {
-    if at < bytes.len() { bytes[at] } else { 0 }
-}
-
-// Four bytes as a number.
-fn number_of(a: u8, b: u8, c: u8, d: u8) -> u32
-    ensures { result ≡ number a b c d }
-{
-    a as u32 + 256 * (b as u32) + 65536 * (c as u32) + 16777216 * (d as u32)
+    bytes.get(at).copied().unwrap_or(0)
 }
 
 // The number of 32 bits at a place.
@@ -27,5 +20,5 @@ pub fn number32(bytes: &[u8], at: usize) -> u32
     let b = byte_at(bytes, at + 1);
     let c = byte_at(bytes, at + 2);
     let d = byte_at(bytes, at + 3);
-    number_of(a, b, c, d)
+    u32::from_le_bytes([a, b, c, d])
 }

@@ -1,5 +1,7 @@
 -- A name is compared with those of the lines from a place on, as the code meets it: a line, with its newline, as a word.
-use Prim.Native.Nat.{ℕ, suc, ◌-◌, ◌≤◌, ◌<◌}
+use Rattle.std.specs.declared.option.Option.TheVariants.{Some, None}
+use Rattle.std.specs.Option.{is_some}
+use Prim.Native.Nat.{ℕ, suc, ◌-◌}
 use mathlib.Core.Path.{◌≡◌, refl, sym, ap, ap₂, ◌∙◌}
 use mathlib.Core.Logic.{inl}
 use mathlib.Core.Bool.{Bool, true, false, ◌&&◌}
@@ -11,13 +13,13 @@ use lib.ListN.{length, take, drop, length-append}
 use lib.Seq.{take_at}
 use Rattle.lists.proofs.Tests.{by_cases}
 use Rattle.writing.specs.Ascii.{newline}
-use Rattle.scanning.specs.Word.{starts, word_at}
-use Rattle.scanning.specs.declared.word.Word.TheVariants.{After, NoWord}
-use Rattle.scanning.proofs.Words.{word_here, word_none}
+use Rattle.scanning.specs.Lines.{unless_zero}
+use Rattle.scanning.specs.Word.{Word, starts, word_at}
+use Rattle.scanning.proofs.Sought.{told}
 use Rattle.names.specs.Name.{letters, name_at, name_end}
-use Rattle.name_list.specs.Names.{same, among, twice, names_of}
 use Rattle.names.proofs.Written.{Small, letters_written, letters_small, name_read}
-use Rattle.name_list.proofs.Lines.{names_here, names_done, names_none, names_later}
+use Rattle.name_list.specs.Names.{same, among, twice, names_of}
+use Rattle.name_list.proofs.Lines.{names_here, names_none, names_later}
 
 -- which of two numbers is named first does not matter
 turned : (a b : ℕ) → eqb a b ≡ eqb b a
@@ -31,14 +33,19 @@ same_line (a ∷ n) [] rest h k = rw (ne_eqb newline a (λ e. omega (arith, e, (
 same_line (a ∷ n) (b ∷ m) rest h k =
     rw (turned a b) (ap (λ (z : Bool). eqb b a && z) (same_line n m rest (λ i p. h (suc i) (omega arith)) (λ i p. k (suc i) (omega arith))))
 
+-- whether a word stands at a place
+found : (line s : List ℕ) (at : ℕ) {word : Word} {b : Bool} → word ≡ word_at line s at → b ≡ is_some word → starts line (drop at s) ≡ b
+unfolding word_at
+found line s at w e = by_cases (starts line (drop at s)) (λ k. k ∙ sym (rw (w, k) at e)) (λ k. k ∙ sym (rw (w, k) at e))
+
 -- a line that is a name
-module _ (s : List ℕ) (at : ℕ) {next : ℕ} (p : next ≡ name_end s newline at) (q : next ≡ 0 → ⊥) where
+module _ (s : List ℕ) (at : ℕ) {next : ℕ} (p : Some next ≡ unless_zero (name_end s newline at)) where
   -- the part of the text from the one place to the other is the name with its newline
   line_is : take (next - at) (drop at s) ≡ name_at s at ++ newline ∷ []
   line_is =
       let n = name_at s at in
-      let r = name_read s newline at (omega arith) (λ z. q (p ∙ z)) in
-      let k : length (n ++ newline ∷ []) ≡ next - at = omega (arith, p, r.1, length-append n (newline ∷ [])) in
+      let r = name_read s newline at (omega arith) (told p).1 in
+      let k : length (n ++ newline ∷ []) ≡ next - at = omega (arith, (told p).0, r.1, length-append n (newline ∷ [])) in
       ap (take (next - at)) (r.3 ∙ sym (append_assoc n (newline ∷ []) (drop (name_end s newline at) s)))
       ∙ take_at (n ++ newline ∷ []) (drop (name_end s newline at) s) (next - at) k
 
@@ -60,30 +67,26 @@ pub again_first : (s line : List ℕ) (from : ℕ) → Again s line from from
 again_first s line from = record { same = refl }
 
 module _ (s line : List ℕ) (from at : ℕ) (h : Again s line from at) where
-  -- no line is left
-  pub again_done : length s ≤ at → false ≡ among (letters line) (names_here s from)
-  again_done k = sym (h.same ∙ ap (among (letters line)) (names_done s at k))
+  -- no more is read
+  pub again_done : None ≡ unless_zero (name_end s newline at) → false ≡ among (letters line) (names_here s from)
+  again_done p = sym (h.same ∙ ap (among (letters line)) (names_none s at p))
 
-  module _ {next : ℕ} (k : at < length s) (p : next ≡ name_end s newline at) where
-    -- the line is no name
-    pub again_none : next ≡ 0 → false ≡ among (letters line) (names_here s from)
-    again_none q = sym (h.same ∙ ap (among (letters line)) (names_none s at k (sym p ∙ q)))
+  module _ {next : ℕ} (p : Some next ≡ unless_zero (name_end s newline at)) (whole : line ≡ letters line ++ newline ∷ []) where
+    -- the two lines are compared as words
+    compared : same (letters line) (name_at s at) ≡ starts line (drop at s)
+    compared =
+        let r = name_read s newline at (omega arith) (told p).1 in
+        same_line (letters line) (name_at s at) (drop (name_end s newline at) s) (letters_small line) r.0.small
+        ∙ ap₂ starts (sym whole) (sym r.3)
 
-    module _ (q : next ≡ 0 → ⊥) (whole : line ≡ letters line ++ newline ∷ []) where
-      -- the two lines are compared as words
-      compared : same (letters line) (name_at s at) ≡ starts line (drop at s)
-      compared =
-          let r = name_read s newline at (omega arith) (λ z. q (p ∙ z)) in
-          same_line (letters line) (name_at s at) (drop (name_end s newline at) s) (letters_small line) r.0.small
-          ∙ ap₂ starts (sym whole) (sym r.3)
-
+    module _ {word : Word} (w : word ≡ word_at line s at) where
       -- it is the name
-      pub again_here : {after : ℕ} → word_at line s at ≡ After after → true ≡ among (letters line) (names_here s from)
-      again_here w = sym (h.same ∙ ap (among (letters line)) (names_later s at k p q) ∙ rw (compared, (word_here line s at w).0) refl)
+      pub again_here : true ≡ is_some word → true ≡ among (letters line) (names_here s from)
+      again_here e = sym (h.same ∙ ap (among (letters line)) (names_later s at p) ∙ rw (compared, found line s at w e) refl)
 
       -- it is another
-      pub again_later : word_at line s at ≡ NoWord → Again s line from next
-      again_later w = record { same = h.same ∙ ap (among (letters line)) (names_later s at k p q) ∙ rw (compared, word_none line s at w) refl }
+      pub again_later : false ≡ is_some word → Again s line from next
+      again_later e = record { same = h.same ∙ ap (among (letters line)) (names_later s at p) ∙ rw (compared, found line s at w e) refl }
 
 -- while a name that stands twice is looked for: from a place on it is the same
 pub record Twice (s : List ℕ) (at : ℕ) : Type 0 where
@@ -94,20 +97,15 @@ pub twice_first : (s : List ℕ) → Twice s 0
 twice_first s = record { same = refl }
 
 module _ (s : List ℕ) (at : ℕ) (h : Twice s at) where
-  -- no line is left
-  pub twice_done : length s ≤ at → false ≡ twice (names_of s)
-  twice_done k = sym (h.same ∙ ap twice (names_done s at k))
+  -- no more is read
+  pub twice_done : None ≡ unless_zero (name_end s newline at) → false ≡ twice (names_of s)
+  twice_done p = sym (h.same ∙ ap twice (names_none s at p))
 
-  module _ {next : ℕ} (k : at < length s) (p : next ≡ name_end s newline at) where
-    -- the line is no name
-    pub twice_none : next ≡ 0 → false ≡ twice (names_of s)
-    twice_none q = sym (h.same ∙ ap twice (names_none s at k (sym p ∙ q)))
+  module _ {next : ℕ} (p : Some next ≡ unless_zero (name_end s newline at)) where
+    -- the name stands there again
+    pub twice_here : among (letters (take (next - at) (drop at s))) (names_here s next) ≡ true → true ≡ twice (names_of s)
+    twice_here e = sym (h.same ∙ ap twice (names_later s at p) ∙ rw (rw (line_name s at p) at e) refl)
 
-    module _ (q : next ≡ 0 → ⊥) where
-      -- its name stands there again
-      pub twice_here : among (letters (take (next - at) (drop at s))) (names_here s next) ≡ true → true ≡ twice (names_of s)
-      twice_here e = sym (h.same ∙ ap twice (names_later s at k p q) ∙ rw (rw (line_name s at p q) at e) refl)
-
-      -- it does not
-      pub twice_later : among (letters (take (next - at) (drop at s))) (names_here s next) ≡ false → Twice s next
-      twice_later e = record { same = h.same ∙ ap twice (names_later s at k p q) ∙ rw (rw (line_name s at p q) at e) refl }
+    -- it does not
+    pub twice_later : among (letters (take (next - at) (drop at s))) (names_here s next) ≡ false → Twice s next
+    twice_later e = record { same = h.same ∙ ap twice (names_later s at p) ∙ rw (rw (line_name s at p) at e) refl }

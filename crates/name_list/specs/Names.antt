@@ -1,10 +1,8 @@
 -- Names as a lent text: a name a line, each ended by a newline.
-use Rattle.std.specs.Prelude.{ℕ, zero, suc, Bool, true, false, cond, ◌&&◌, ◌||◌, List, [], ◌∷◌, ◌++◌, ltb, eqb, length}
+use Rattle.std.specs.Prelude.{Option, Some, None, ℕ, zero, suc, Bool, true, false, cond, ◌&&◌, ◌||◌, List, [], ◌∷◌, ◌++◌, ltb, eqb, length}
 use Rattle.writing.specs.Ascii.{newline}
 use Rattle.scanning.specs.Lines.{unreadable_from}
 use Rattle.names.specs.Name.{name_at, name_end}
-use Rattle.name_list.specs.declared.Names.{Names}
-use Rattle.name_list.specs.declared.Names.TheVariants.{Count, Unreadable}
 
 -- names as text
 abbrev pub names_text : List (List ℕ) → List ℕ
@@ -45,5 +43,5 @@ abbrev pub bad_name : List ℕ → ℕ
 bad_name s = unreadable_from (name_end s newline) (length s) (length s) 1 0
 
 -- how many names there are, if each line is one
-unfoldable pub names_said : List ℕ → Names
-names_said s = cond (eqb (bad_name s) 0) (Count (length (names_of s))) Unreadable
+unfoldable pub names_said : List ℕ → Option ℕ
+names_said s = cond (eqb (bad_name s) 0) (Some (length (names_of s))) None

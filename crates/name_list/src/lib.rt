@@ -7,15 +7,8 @@ ghost use Rattle.names.specs.Name.{letters};
 ghost use Rattle.name_list.specs.Names.{among, twice, names_from, names_of, names_said};
 
 use names::name::name_end;
-use scanning::word::{Word, read_word};
+use scanning::word::read_word;
 use writing::NEWLINE;
-
-// How many names there are; or a line is none.
-#[derive(Clone, Copy)]
-pub enum Names {
-    Count(usize),
-    Unreadable,
-}
 
 // Whether the name of a line, which has its newline, is among those of the lines from a place on.
 fn name_again(text: &[u8], line: &[u8], from: usize) -> bool
@@ -23,19 +16,11 @@ fn name_again(text: &[u8], line: &[u8], from: usize) -> bool
     ensures { result ≡ among (letters line.now) (names_from (length text.now) text.now from) }
 {
     let mut at = from;
-    while at < text.len() {
-        let next = name_end(text, at, NEWLINE);
-        if next == 0 {
-            return false;
+    while let Some(next) = name_end(text, at, NEWLINE) {
+        if read_word(text, at, line).is_some() {
+            return true;
         }
-        match read_word(text, at, line) {
-            Word::NoWord => {
-                at = next;
-            }
-            Word::After(after) => {
-                return true;
-            }
-        }
+        at = next;
     }
     false
 }
@@ -45,11 +30,7 @@ pub fn name_twice(names: &[u8]) -> bool
     ensures { result ≡ twice (names_of names.now) }
 {
     let mut at = 0;
-    while at < names.len() {
-        let next = name_end(names, at, NEWLINE);
-        if next == 0 {
-            return false;
-        }
+    while let Some(next) = name_end(names, at, NEWLINE) {
         if name_again(names, &names[at..next], next) {
             return true;
         }
@@ -59,18 +40,15 @@ pub fn name_twice(names: &[u8]) -> bool
 }
 
 // How many names a list has, if each of its lines is one.
-pub fn read_names(names: &[u8]) -> Names
+pub fn read_names(names: &[u8]) -> Option<usize>
     ensures { result ≡ names_said names.now }
 {
     let mut at = 0;
+    // Where the last name ends is asked too: a chain that counts the places is no plainer.
     let mut count = 0;
-    while at < names.len() {
-        let next = name_end(names, at, NEWLINE);
-        if next == 0 {
-            return Names::Unreadable;
-        }
+    while let Some(next) = name_end(names, at, NEWLINE) {
         at = next;
         count += 1;
     }
-    Names::Count(count)
+    if at < names.len() { None } else { Some(count) }
 }

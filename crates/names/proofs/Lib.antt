@@ -1,4 +1,3 @@
-pub mod Letters
 pub mod Ends
 pub mod Written
 pub mod Parts

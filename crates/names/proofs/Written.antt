@@ -45,7 +45,7 @@ name_written s e at n rest h stop p =
     let last : get_or s (at + k) 0 ≡ e = sym (get_or-drop at s k 0) ∙ ap (λ (l : List ℕ). get_or l k 0) p ∙ get_or-append_seam n e rest 0 in
     let f : at + k + 1 ≡ at + (k + 1) = omega arith in (
       here,
-      sym (end_is s e at k (sym (ap length here)) (λ z. omega (arith, z, h.some)) h.few last),
+      end_is s e at k (sym (ap length here)) (λ z. omega (arith, z, h.some)) h.few last,
       ap (λ (j : ℕ). drop j s) f ∙ sym (drop-drop (k + 1) at s) ∙ ap (drop (k + 1)) p ∙ drop-append-add n (e ∷ rest) 1,
     )
 

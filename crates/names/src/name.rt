@@ -1,42 +1,33 @@
 // A name at a place of a text.
 ghost use Rattle.std.specs.Prelude.{◌≡◌, ◌<◌, length};
-ghost use Rattle.names.specs.Name.{name_at, name_end};
+ghost use Rattle.std.specs.List.{prefix_len};
+ghost use Rattle.std.specs.Char.{is_ascii_lowercase};
+ghost use Rattle.scanning.specs.Lines.{unless_zero};
+ghost use Rattle.names.specs.Name.{letters, name_end};
 
 // Letters of a name, at most.
 pub const LETTERS: usize = 12;
 
-// How many small letters stand at a place.
-fn letters_at(text: &[u8], at: usize) -> usize
-    ensures { result ≡ length (name_at text.now at) }
+// How many small letters a text starts with.
+fn letters_of(text: &[u8]) -> usize
+    ensures { result ≡ prefix_len is_ascii_lowercase text.now }
 {
-    let mut next = at;
-    while next < text.len() {
-        let b = text[next];
-        if (97 <= b) & (b <= 122) {
-            next += 1;
-        } else {
-            return next - at;
-        }
-    }
-    next - at
+    text.iter().take_while(|b| b.is_ascii_lowercase()).count()
 }
 
-// The place after the name at a place and the byte that has to end it, 0 where no name stands there.
-pub fn name_end(text: &[u8], at: usize, end: u8) -> usize
+// The place after the name at a place and the byte that has to end it, if a name stands there.
+pub fn name_end(text: &[u8], at: usize, end: u8) -> Option<usize>
     requires { 0 < end }
-    ensures { result ≡ name_end text.now end at }
+    ensures { result ≡ unless_zero (name_end text.now end at) }
 {
-    let count = letters_at(text, at);
-    if count == 0 {
-        return 0;
+    let rest = text.get(at..)?;
+    let count = letters_of(rest);
+    if count == 0 || LETTERS < count {
+        return None;
     }
-    if LETTERS < count {
-        return 0;
+    if *rest.get(count)? == end {
+        Some(at + count + 1)
+    } else {
+        None
     }
-    let after = at + count;
-    if text.len() <= after {
-        return 0;
-    }
-    let b = text[after];
-    if b == end { after + 1 } else { 0 }
 }

@@ -2,19 +2,11 @@
 #![tactic(auto)]
 
 use office_answer::{ANSWER, answer};
-use streams::{Input, read_input, write_output};
+use streams::answer_input;
 
 // 4,096 bytes of a table's text, 14 of the line `names 1000000`, 1,023 names of 13, and one more: what is longer is refused by 16, 19 or 17 whatever follows.
 const TEXT: usize = 17_410;
 
 fn main(rt: HostRuntime) {
-    let mut text = [0u8; TEXT];
-    match read_input(&rt, &mut text) {
-        Input::Failed => {}
-        Input::Got(n) => {
-            let mut out = [0u8; ANSWER];
-            let r = answer(&text[0..n], &mut out);
-            write_output(&rt, &out[0..r]);
-        }
-    }
+    answer_input::<TEXT, ANSWER, _, _>(&rt, answer);
 }

@@ -1,14 +1,14 @@
 -- The equations of what the program `office` writes, as the code meets them.
+use Rattle.std.specs.declared.option.Option.TheVariants.{Some, None}
 use Prim.Native.Nat.{ℕ, ◌+◌, ◌-◌, ◌/◌, ◌≤◌, ◌<◌}
 use mathlib.Core.Path.{◌≡◌, refl, ap, ◌∙◌, subst}
-use mathlib.Core.Bool.{true, false}
+use mathlib.Core.Bool.{false}
 use mathlib.Core.List.{List}
-use native.Mathlib.Nat.{sub-zero}
 use native.Mathlib.Omega.{arith}
-use lib.Dec.{ltb, leb, eqb}
-use lib.ListN.{length, take, drop, length-take}
 use borrow.Author.Tests.{lt-ltb, le-ltb, ne_eqb, eqb-true, eqb-false, leb-true}
-use Rattle.lists.proofs.Tests.{by_cases, and_right}
+use lib.Dec.{leb, eqb}
+use lib.ListN.{length, take, drop}
+use Rattle.lists.proofs.Tests.{by_cases}
 use Rattle.units.specs.declared.refusal.Refusal.{Refusal}
 use Rattle.units.specs.Refusals.{refusal, text_no, tick_no}
 use Rattle.writing.specs.Ascii.{newline}
@@ -17,9 +17,8 @@ use Rattle.writing.specs.Refused.{refusal_text}
 use Rattle.writing.proofs.Wrote.{fitted as text_fitted, recast}
 use Rattle.scanning.specs.Line.{field_at}
 use Rattle.scanning.proofs.Fields.{rest_is}
-use Rattle.scanning.specs.declared.number.Number.TheVariants.{Value, NoNumber}
 use Rattle.table_text.specs.Text.{Said, says, unreadable, text_of}
-use Rattle.tick_length.specs.Ticks.{tick_in, tick_limit}
+use Rattle.tick_length.specs.Ticks.{tick_in}
 use Rattle.sheet_text.specs.Job.{nanos_bound}
 use Rattle.sheet_writing.specs.declared.Written.{Written}
 use Rattle.sheet_writing.specs.Write.{write_refusal, sheet_for, fitted, fitted_after, written_of, written_after}
@@ -91,11 +90,11 @@ module _ (m : ℕ) (xs names : List ℕ) (tick : ℕ) (a : List ℕ) where
 
 module _ (room m : ℕ) (xs s : List ℕ) (at : ℕ) where
   -- the tick length can't be read
-  pub no_tick : field_at nanos_bound s newline at ≡ NoNumber → refusal_text (refusal tick_no 0) ≡ after_word room m xs s at
+  pub no_tick : field_at nanos_bound s newline at ≡ None → refusal_text (refusal tick_no 0) ≡ after_word room m xs s at
   unfolding after_tick
   no_tick e = rw e refl
 
-  module _ {tick a : ℕ} (e : field_at nanos_bound s newline at ≡ Value tick a) where
+  module _ {tick a : ℕ} (e : field_at nanos_bound s newline at ≡ Some (tick, a)) where
     -- it is out of range
     pub tick_out : tick_in tick ≡ false → refusal_text (refusal tick_no 0) ≡ after_word room m xs s at
     unfolding after_tick written_text written_of
@@ -106,26 +105,18 @@ module _ (room m : ℕ) (xs s : List ℕ) (at : ℕ) where
     unfolding after_tick
     tick_read = ap (λ (l : List ℕ). written_text room m xs l tick) (rest_is s a) ∙ rw e refl
 
--- a tick length in range fits 32 bits
-pub tick_fits : (tick : ℕ) → tick_in tick ≡ true → tick < 4294967296
-tick_fits tick e = omega (arith, leb-true tick tick_limit (and_right (ltb 0 tick) (leb tick tick_limit) e))
-
--- how many numbers the table's part has
-pub part_length : (n : ℕ) (table : List ℕ) → n ≤ length table → n ≡ length (take (n - 0) table)
-part_length n table h = rw (length-take (n - 0) table, sub-zero n) (omega arith)
-
 module _ (room : ℕ) (s : List ℕ) {p : ℕ} (e : p ≡ names_place s) where
   -- an input is its table and what follows
-  given : {w : Said} → text_of (take (p - 0) s) ≡ w → after_table room s p w ≡ office_text room s
+  given : {w : Said} → text_of (take p s) ≡ w → after_table room s p w ≡ office_text room s
   unfolding office_text
-  given f = rw (← e, ← sub-zero p, f) refl
+  given f = rw (← e, f) refl
 
   -- an unreadable table
-  pub table_bad : {line : ℕ} → text_of (take (p - 0) s) ≡ unreadable line → refusal_text (refusal text_no line) ≡ office_text room s
+  pub table_bad : {line : ℕ} → text_of (take p s) ≡ unreadable line → refusal_text (refusal text_no line) ≡ office_text room s
   unfolding after_table
   table_bad f = given f
 
-  module _ {m : ℕ} {xs : List ℕ} (f : text_of (take (p - 0) s) ≡ says m xs) where
+  module _ {m : ℕ} {xs : List ℕ} (f : text_of (take p s) ≡ says m xs) where
     -- no line `names `
     pub no_names : {n : ℕ} → n ≡ length xs → length s ≤ p → refusal_text (refusal text_no (2 + n / 2)) ≡ office_text room s
     unfolding after_table

@@ -1,4 +1,5 @@
 -- What the program `office` writes, in document 02's words.
+use Rattle.std.specs.declared.option.Option.TheVariants.{Some, None}
 use Prim.Native.Nat.{ℕ, zero, suc, ◌+◌, ◌/◌, ◌≤◌, ◌<◌}
 use mathlib.Core.Path.{◌≡◌, refl, ap, ◌∙◌}
 use mathlib.Core.Bool.{Bool, true, false}
@@ -16,8 +17,7 @@ use Rattle.writing.specs.Refused.{refusal_text}
 use Rattle.scanning.specs.Line.{field_at}
 use Rattle.line_place.specs.Place.{line_here, first_place, line_place}
 use Rattle.scanning.proofs.WrittenLines.{field_written, field_read}
-use Rattle.scanning.specs.declared.number.Number.{Number}
-use Rattle.scanning.specs.declared.number.Number.TheVariants.{Value, NoNumber}
+use Rattle.scanning.specs.Number.{Number}
 use Rattle.table_text.specs.Text.{says, unreadable, text_of}
 use Rattle.sheet_text.specs.Job.{nanos_bound}
 use Rattle.office_answer.specs.Office.{names_place, written_text, after_tick, after_table, office_text}
@@ -73,10 +73,10 @@ module _ (room : ℕ) (s : List ℕ) where
       office_tick none = follows ∙ go (field_at nanos_bound s newline (names_place s + 6)) refl
         where
           go : (n : Number) → field_at nanos_bound s newline (names_place s + 6) ≡ n → after_tick room m xs s n ≡ refusal_text (refusal 19 0)
-          go (Value tick a) q =
+          go (Some (tick, a)) q =
               let r = field_read nanos_bound s newline (names_place s + 6) tick a (omega arith) (omega arith) q in
               absurd (none tick (drop a s) r.0 r.1)
-          go NoNumber q = refl
+          go None q = refl
 
       -- else the table is written with that tick length and the names after it
       pub office_writes : (tick : ℕ) (names : List ℕ) → tick < 1000000000000000 → drop (names_place s + 6) s ≡ decimal_of tick ++ newline ∷ names

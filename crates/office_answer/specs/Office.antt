@@ -1,12 +1,11 @@
 -- What the program `office` writes, document 02, R-1: a table's text, a line `names TICK`, then a name a line.
-use Rattle.std.specs.Prelude.{ℕ, ◌+◌, ◌/◌, cond, List, ltb, eqb, length, take, drop}
+use Rattle.std.specs.Prelude.{Some, None, ℕ, ◌+◌, ◌/◌, cond, List, ltb, eqb, length, take, drop}
 use Rattle.units.specs.Refusals.{refusal, text_no, tick_no}
 use Rattle.writing.specs.Ascii.{ascii, newline}
 use Rattle.writing.specs.Refused.{refusal_text}
 use Rattle.scanning.specs.Line.{field_at}
 use Rattle.line_place.specs.Place.{line_place}
-use Rattle.scanning.specs.declared.number.Number.{Number}
-use Rattle.scanning.specs.declared.number.Number.TheVariants.{Value, NoNumber}
+use Rattle.scanning.specs.Number.{Number}
 use Rattle.table_text.specs.Text.{Said, says, unreadable, text_of}
 use Rattle.sheet_text.specs.Job.{nanos_bound}
 use Rattle.sheet_writing.specs.Write.{sheet_for, written_of}
@@ -24,8 +23,8 @@ written_text room m xs names tick =
 
 -- the tick length follows the word, and the names its line; where it cannot be read it is 19
 unfoldable pub after_tick : ℕ → ℕ → List ℕ → List ℕ → Number → List ℕ
-after_tick room m xs s (Value tick at) = written_text room m xs (drop at s) tick
-after_tick room m xs s NoNumber = refusal_text (refusal tick_no 0)
+after_tick room m xs s (Some (tick, at)) = written_text room m xs (drop at s) tick
+after_tick room m xs s None = refusal_text (refusal tick_no 0)
 
 -- what follows the word at a place
 abbrev pub after_word : ℕ → ℕ → List ℕ → List ℕ → ℕ → List ℕ

@@ -9,9 +9,8 @@ ghost use Rattle.office_answer.specs.Office.{written_text, after_word, office_te
 
 use line_place::line_place;
 use scanning::line::read_field;
-use scanning::number::Number;
-use sheet_writing::write_sheet;
-use table_text::{NUMBERS, Reading, read_text};
+use sheet_writing::{Written, write_sheet};
+use table_text::{NUMBERS, TableRead, read_text};
 use tick_length::tick_in;
 use units::refusal::Refusal;
 use writing::NEWLINE;
@@ -27,11 +26,7 @@ fn put_refused(out: &mut [u8], no: u32, line: usize) -> usize
     ensures wrote { Wrote out.old 0 (refusal_text (refusal no line)) out.new result }
     ensures upper_bound { result ≤ 60 }
 {
-    let refusal = Refusal {
-        no: no,
-        named: line,
-    };
-    put_refusal(out, 0, refusal)
+    put_refusal(out, 0, Refusal { no, named: line })
 }
 
 // A table and its names: the sheet, or the refusal's line.
@@ -40,12 +35,12 @@ fn put_written(out: &mut [u8], cores: u32, table: &[u32], names: &[u8], tick: u3
         out.new result }
     ensures upper_bound { result ≤ 4096 }
 {
-    let written = write_sheet(cores, table, names, tick, out);
-    let refusal = written.refusal;
-    if refusal.no != 0 {
-        return put_refusal(out, 0, refusal);
+    let Written { refusal, length } = write_sheet(cores, table, names, tick, out);
+    if refusal.no == 0 {
+        length
+    } else {
+        put_refusal(out, 0, refusal)
     }
-    written.length
 }
 
 // What follows the word `names ` at a place: the tick length, and the names.
@@ -55,14 +50,14 @@ fn put_named(out: &mut [u8], cores: u32, table: &[u32], text: &[u8], at: usize) 
     ensures upper_bound { result ≤ 4096 }
 {
     match read_field(text, at, BOUND, NEWLINE) {
-        Number::NoNumber => put_refused(out, Refusal::TICK, 0),
-        Number::Value(nanos, a) => {
-            if !tick_in(nanos) {
-                return put_refused(out, Refusal::TICK, 0);
-            }
-            let tick = nanos as u32;
-            put_written(out, cores, table, &text[a..], tick)
-        }
+        Some((tick, names)) if tick_in(tick) => put_written(
+            out,
+            cores,
+            table,
+            &text[names..],
+            tick as u32,
+        ),
+        _ => put_refused(out, Refusal::TICK, 0),
     }
 }
 
@@ -73,13 +68,15 @@ pub fn answer(text: &[u8], out: &mut [u8]) -> usize
 {
     let place = line_place(text, b"names ");
     let mut table = [0u32; NUMBERS];
-    match read_text(&text[0..place], &mut table) {
-        Reading::Unreadable(line) => put_refused(out, Refusal::TEXT, line),
-        Reading::Read { cores, count } => {
-            if text.len() <= place {
-                return put_refused(out, Refusal::TEXT, 2 + count / 2);
-            }
-            put_named(out, cores, &table[0..count], text, place + 6)
-        }
+    match read_text(&text[..place], &mut table) {
+        Err(line) => put_refused(out, Refusal::TEXT, line),
+        Ok(TableRead { cores, count }) if place < text.len() => put_named(
+            out,
+            cores,
+            &table[..count],
+            text,
+            place + 6,
+        ),
+        Ok(TableRead { count, .. }) => put_refused(out, Refusal::TEXT, 2 + count / 2),
     }
 }

@@ -1,7 +1,6 @@
 -- What the program writes for a text, document 01, "Listing and text".
-use Rattle.std.specs.Prelude.{ℕ, cond, List, eqb}
+use Rattle.std.specs.Prelude.{Err, ℕ, cond, List, eqb}
 use Rattle.writing.specs.Refused.{refusal_text}
-use Rattle.table_text.specs.declared.Reading.TheVariants.{Unreadable}
 use Rattle.table_text.specs.Text.{Said, says, unreadable, text_of, reading_refusal}
 use Rattle.planning.specs.Plan.{plan_of}
 use Rattle.listing.specs.Listing.{listing_text}
@@ -17,7 +16,7 @@ table_text room m xs =
 -- what a text says, answered in such a buffer
 unfoldable pub said_text : ℕ → Said → List ℕ
 said_text room (says m xs) = table_text room m xs
-said_text room (unreadable line) = refusal_text (reading_refusal (Unreadable line))
+said_text room (unreadable line) = refusal_text (reading_refusal (Err line))
 
 -- what is written into such a buffer: 16 comes first, then planning's refusals, and with room for any listing 14 is not met (proofs/Words)
 unfoldable pub answer_text : ℕ → List ℕ → List ℕ

@@ -7,7 +7,7 @@ ghost use Rattle.listing.specs.Listed.{listing_limit};
 ghost use Rattle.plan_answer.specs.Answer.{table_text, answer_text};
 
 use listing::listed::list_table;
-use table_text::{NUMBERS, Reading, read_text};
+use table_text::{NUMBERS, TableRead, read_text};
 use units::refusal::Refusal;
 use writing::refused::put_refusal;
 
@@ -20,9 +20,8 @@ fn put_table(out: &mut [u8], cores: u32, table: &[u32]) -> usize
     ensures upper_bound { result ≤ listing_limit }
 {
     let listed = list_table(cores, table, out);
-    let refusal = listed.refusal;
-    if refusal.no != 0 {
-        return put_refusal(out, 0, refusal);
+    if listed.refusal.no != 0 {
+        return put_refusal(out, 0, listed.refusal);
     }
     listed.length
 }
@@ -32,15 +31,16 @@ pub fn answer(text: &[u8], out: &mut [u8]) -> usize
     ensures wrote { Wrote out.old 0 (answer_text (length out.old) text.now) out.new result }
     ensures upper_bound { result ≤ listing_limit }
 {
-    let mut table = [0u32; NUMBERS];
+    let mut table = [0; NUMBERS];
     match read_text(text, &mut table) {
-        Reading::Unreadable(line) => {
-            let refusal = Refusal {
+        Err(line) => put_refusal(
+            out,
+            0,
+            Refusal {
                 no: Refusal::TEXT,
                 named: line,
-            };
-            put_refusal(out, 0, refusal)
-        }
-        Reading::Read { cores, count } => put_table(out, cores, &table[0..count]),
+            },
+        ),
+        Ok(TableRead { cores, count }) => put_table(out, cores, &table[..count]),
     }
 }

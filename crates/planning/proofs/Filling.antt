@@ -1,32 +1,21 @@
--- The cores' room and the tasks' lines filled in one by one.
-use Prim.Native.Nat.{ℕ, zero, suc, ◌+◌, ◌*◌, ◌-◌, ◌/◌, ◌≤◌, ◌<◌}
+-- The tasks' lines filled in one by one.
+use Prim.Native.Nat.{ℕ, zero, suc, ◌+◌, ◌*◌, ◌/◌, ◌≤◌, ◌<◌}
 use mathlib.Core.Path.{◌≡◌, refl, ap, ap₂, ◌∙◌}
-use mathlib.Core.List.{List, [], ◌∷◌, ◌++◌}
+use mathlib.Core.List.{List, [], ◌∷◌}
 use native.Mathlib.Omega.{arith}
 use native.Mathlib.Numerals.{add-one}
 use lib.ListN.{length, get_or, drop, set, replicate}
 use lib.Seq.{drop-cons}
-use Rattle.units.specs.Limits.{cores_limit, tasks_limit}
+use Rattle.units.specs.Limits.{tasks_limit}
 use Rattle.units.specs.Units.{share, duration, nums, units}
 use Rattle.units.specs.declared.share.Share.{Share}
 use Rattle.units.proofs.Units.{nums_at, units_nums}
-use Rattle.lists.specs.Lists.{zeros}
 use Rattle.lists.proofs.Pairs.{pair_drop, pair_end}
 use Rattle.lists.proofs.Filled.{Filled, empty, next, full}
-use Rattle.assignment.specs.Passes.{rooms, rows_of}
+use Rattle.assignment.specs.Passes.{rows_of}
 use Rattle.assignment.specs.declared.Row.{Row}
 use Rattle.planning.specs.declared.Line.{Line}
 use Rattle.planning.specs.Plan.{line, empty_line, lines_of, padded_lines}
-
-fill : (l p k : ℕ) → set (replicate p l ++ zeros (suc k)) p l ≡ replicate (suc p) l ++ zeros k
-fill l zero k = refl
-fill l (suc p) k = ap (λ (ys : List ℕ). l ∷ ys) (fill l p k)
-
--- the room of one core more
-pub rooms_more : (l p : ℕ) → p < cores_limit → set (rooms p l) p l ≡ rooms (p + 1) l
-rooms_more l p h =
-    let e : cores_limit - p ≡ suc (cores_limit - suc p) = omega arith in
-    rw (add-one p, e) (fill l p (cores_limit - suc p))
 
 -- after k tasks: the first k lines stand, the others are empty
 abbrev pub Filling : List ℕ → List ℕ → List (List ℕ) → List Line → ℕ → Type 0

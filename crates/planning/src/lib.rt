@@ -5,7 +5,7 @@ ghost use Rattle.std.specs.Prelude.{◌≡◌, ◌*◌, ◌≤◌, length};
 ghost use Rattle.units.specs.Limits.{cores_limit, tasks_limit};
 ghost use Rattle.units.specs.Units.{nums};
 ghost use Rattle.assignment.specs.Passes.{rooms, rows_of};
-ghost use Rattle.planning.specs.Plan.{lines_of, padded_lines, empty_plan, plan_for, plan_of};
+ghost use Rattle.planning.specs.Plan.{lines_of, padded_lines, plan_for, plan_of};
 
 use admission::admit::admit;
 use assignment::{Row, shares_of};
@@ -43,6 +43,16 @@ pub struct Plan {
     pub lines: [Line; TASKS],
 }
 
+impl Plan {
+    // Of a refused list.
+    pub const EMPTY: Plan = Plan {
+        cores: 0,
+        common: 0,
+        count: 0,
+        lines: [Line::EMPTY; TASKS],
+    };
+}
+
 // The refusal and the empty plan, or none and the plan.
 #[derive(Clone, Copy)]
 pub struct Planned {
@@ -56,11 +66,7 @@ fn rooms_of(cores: usize, common: u32) -> Row
     ensures { nums result.shares ≡ rooms cores common }
 {
     let mut room = [Share::EMPTY; CORES];
-    let mut p: usize = 0;
-    while p < cores {
-        room[p] = Share(common);
-        p += 1;
-    }
+    room[..cores].fill(Share(common));
     Row { shares: room }
 }
 
@@ -69,22 +75,14 @@ fn lines_of(table: &[u32], weights: [Share; TASKS], rows: [Row; TASKS]) -> [Line
     requires { length table.now ≤ 2 * tasks_limit }
     ensures { result ≡ padded_lines (lines_of table.now (nums weights) (rows_of rows)) }
 {
-    let n = table.len() / 2;
     let mut lines = [Line::EMPTY; TASKS];
-    let mut k: usize = 0;
-    while k < n {
-        let row = rows[k];
-        let shares = row.shares;
-        let weight = weights[k];
-        let cost = table[2 * k];
-        let period = table[2 * k + 1];
+    for k in 0..table.len() / 2 {
         lines[k] = Line {
-            cost: Duration(cost),
-            period: Duration(period),
-            weight: weight,
-            shares: shares,
+            cost: Duration(table[2 * k]),
+            period: Duration(table[2 * k + 1]),
+            weight: weights[k],
+            shares: rows[k].shares,
         };
-        k += 1;
     }
     lines
 }
@@ -94,26 +92,14 @@ fn drawn(cores: u32, table: &[u32], common: u32, weights: [Share; TASKS]) -> Pla
     requires { (cores ≤ cores_limit) × (length table.now ≤ 2 * tasks_limit) }
     ensures { result ≡ plan_for cores common (nums weights) table.now }
 {
-    let m = cores as usize;
-    let room = rooms_of(m, common);
+    let room = rooms_of(cores as usize, common);
     let rows = shares_of(weights, room);
     let lines = lines_of(table, weights, rows);
     Plan {
-        cores: cores,
-        common: common,
+        cores,
+        common,
         count: table.len() / 2,
-        lines: lines,
-    }
-}
-
-fn empty_plan() -> Plan
-    ensures { result ≡ empty_plan }
-{
-    Plan {
-        cores: 0,
-        common: 0,
-        count: 0,
-        lines: [Line::EMPTY; TASKS],
+        lines,
     }
 }
 
@@ -124,16 +110,11 @@ pub fn plan_of(cores: u32, table: &[u32]) -> Planned
     let answer = admit(cores, table);
     let refusal = answer.refusal;
     if refusal.no != 0 {
-        let plan = empty_plan();
         return Planned {
-            refusal: refusal,
-            plan: plan,
+            refusal,
+            plan: Plan::EMPTY,
         };
     }
-    let weights = answer.weights;
-    let plan = drawn(cores, table, answer.common, weights);
-    Planned {
-        refusal: refusal,
-        plan: plan,
-    }
+    let plan = drawn(cores, table, answer.common, answer.weights);
+    Planned { refusal, plan }
 }

@@ -1,5 +1,6 @@
 -- The equations of playing calls, as the code meets them.
-use Prim.Native.Nat.{ℕ, zero, suc, ◌+◌, ◌*◌, ◌≤◌, ◌<◌}
+use Rattle.std.specs.declared.option.Option.TheVariants.{Some, None}
+use Prim.Native.Nat.{ℕ, zero, suc, ◌+◌, ◌*◌, ◌≤◌}
 use mathlib.Core.Path.{◌≡◌, refl, sym, ap, ◌∙◌}
 use mathlib.Core.List.{List, [], ◌∷◌, ◌++◌, append-nil, append_assoc}
 use native.Mathlib.Omega.{arith}
@@ -12,37 +13,20 @@ use Rattle.writing.proofs.Wrote.{none, then, recast}
 use Rattle.dispatch.specs.declared.Record.{Record}
 use Rattle.dispatch.specs.declared.call.Call.{Call}
 use Rattle.dispatch.specs.declared.call.Answered.{Answered}
-use Rattle.dispatch.specs.Calls.{answered_of, step, after}
-use Rattle.calls_text.specs.Line.{call_line, line_after}
-use Rattle.calls_text.specs.Input.{input_limit, then_calls, call_in, calls_from}
+use Rattle.dispatch.specs.Calls.{answered_of}
+use Rattle.calls_text.specs.Line.{call_line}
+use Rattle.calls_text.specs.Input.{input_limit, then_calls, calls_from}
 use Rattle.player.specs.Answers.{answer_line}
 use Rattle.player.specs.Played.{answers_limit, answers_text}
-use Rattle.calls_text.specs.declared.line.CallLine.{CallLine}
-use Rattle.calls_text.specs.declared.line.CallLine.TheVariants.{Called, NoCall}
-use Rattle.calls_text.proofs.Lines.{Reach, call_reach, from_start, ahead}
-
--- what a line's calls leave: the record after them, and their answers
-abbrev Leaves : Record → List Call → List ℕ → ℕ → Record → List ℕ → ℕ → Type 0
-Leaves r cs before at next now end = (next ≡ after r cs) × Wrote before at (answers_text r cs) now end
-
--- a line's call
-pub line_called : (r : Record) {line : CallLine} {before now : List ℕ} {at end place : ℕ} {c : Call} {a : Answered}
-    → line ≡ Called c place → a ≡ answered_of r c → Wrote before at (answer_line a.answer) now end → Leaves r (call_in line) before at a.next now end
-unfolding then_calls answers_text
-line_called r {a = a} e s w =
-    rw e (ap (λ (x : Answered). x.next) s, recast (sym (append-nil (answer_line a.answer)) ∙ ap (λ (x : Answered). answer_line x.answer ++ []) s) w)
-
--- a line without a call leaves all as it was
-pub line_none : (r : Record) {line : CallLine} (now : List ℕ) (at : ℕ) → line ≡ NoCall → Leaves r (call_in line) now at r now at
-unfolding then_calls answers_text
-line_none r now at e = rw e (refl, none now at)
+use Rattle.calls_text.specs.Line.{CallLine}
+use Rattle.calls_text.proofs.Lines.{Reach, call_reach, line_reach, line_inside}
 
 -- a later place gives the same calls, the rest of them
 then_same : (k at : ℕ) (line : CallLine) {f g : ℕ → List Call} → Reach k at line
     → ((next : ℕ) → at + k ≤ next → f next ≡ g next) → then_calls f line ≡ then_calls g line
 unfolding then_calls
-then_same k at (Called c next) h e = ap (λ (cs : List Call). c ∷ cs) (e next h)
-then_same k at NoCall h e = refl
+then_same k at (Some (c, next)) h e = ap (λ (cs : List Call). c ∷ cs) (e next h)
+then_same k at None h e = refl
 
 -- past the end there is none
 past : (s : List ℕ) (f at : ℕ) → length s ≤ at → calls_from f s at ≡ []
@@ -60,47 +44,24 @@ enough s (suc f) (suc g) at h k =
     (λ e. rw e (then_same 9 at (call_line s at) (call_reach s at) (λ next p. enough s f g next (omega arith) (omega arith))))
     (λ e. rw e refl)
 
--- the calls of a line, then those after it
-line_then : (line : CallLine) (f : ℕ → List Call) → (line_after line ≡ 0 → ⊥) → then_calls f line ≡ call_in line ++ f (line_after line)
-unfolding then_calls line_after
-line_then (Called c next) f h = refl
-line_then NoCall f h = absurd (h refl)
-
--- a line that cannot be read has no calls
-line_bad : (line : CallLine) (f : ℕ → List Call) → Reach 9 0 line → line_after line ≡ 0 → then_calls f line ≡ []
-unfolding then_calls line_after
-line_bad (Called c next) f r h = absurd (omega (arith, r, h))
-line_bad NoCall f r h = refl
-
 -- the calls from a place on
 abbrev pub calls_at : List ℕ → ℕ → List Call
 calls_at s at = calls_from (length s) s at
 
-module _ (s : List ℕ) (at : ℕ) (inside : at < length s) where
+module _ (s : List ℕ) (at : ℕ) where
   -- one line's, then the later ones
-  calls_next : (line_after (call_line s at) ≡ 0 → ⊥) → calls_at s at ≡ call_in (call_line s at) ++ calls_at s (line_after (call_line s at))
-  unfolding calls_from
-  calls_next h =
-      let next = line_after (call_line s at) in
-      let a : at + 9 ≤ next = ahead s at refl h in
-      enough s (length s) (suc (length s)) at (omega arith) (omega arith)
-      ∙ rw (lt-ltb at (length s) inside) (line_then (call_line s at) (λ p. calls_from (length s) s p) h)
+  calls_next : {c : Call} {next : ℕ} → call_line s at ≡ Some (c, next) → calls_at s at ≡ c ∷ calls_at s next
+  unfolding calls_from then_calls
+  calls_next e = enough s (length s) (suc (length s)) at (omega arith) (omega arith) ∙ rw (lt-ltb at (length s) (line_inside s at e), e) refl
 
   -- none where the line cannot be read
-  calls_bad : line_after (call_line s at) ≡ 0 → calls_at s at ≡ []
-  unfolding calls_from
-  calls_bad h =
-      enough s (length s) (suc (length s)) at (omega arith) (omega arith)
-      ∙ rw (lt-ltb at (length s) inside) (line_bad (call_line s at) (λ p. calls_from (length s) s p) (from_start at (call_line s at) (call_reach s at)) h)
-
--- the answers of calls, then those of later ones
-answers_append : (r : Record) (xs ys : List Call) → answers_text r (xs ++ ys) ≡ answers_text r xs ++ answers_text (after r xs) ys
-unfolding answers_text
-answers_append r [] ys = refl
-answers_append r (x ∷ xs) ys =
-    let line = answer_line (answered_of r x).answer in
-    ap (λ (l : List ℕ). line ++ l) (answers_append (step r x) xs ys)
-    ∙ sym (append_assoc line (answers_text (step r x) xs) (answers_text (after (step r x) xs) ys))
+  calls_none : call_line s at ≡ None → calls_at s at ≡ []
+  unfolding calls_from then_calls
+  calls_none e = go (length s)
+    where
+      go : (f : ℕ) → calls_from f s at ≡ []
+      go zero = refl
+      go (suc f) = by_cases (ltb at (length s)) (λ h. rw (h, e) refl) (λ h. rw h refl)
 
 -- while calls are played: what is written, and what is left to play, make up the whole
 pub record Playing (s : List ℕ) (from : ℕ) (first : Record) (before : List ℕ) (held : Record) (now : List ℕ) (at end : ℕ) : Type 0 where
@@ -119,30 +80,23 @@ module _ {s before now : List ℕ} {first held : Record} {from at end : ℕ} (h 
   unfolding answers_text
   all e = recast (sym (h.left ∙ rw e (append-nil h.done))) h.wrote
 
-  -- at the end
-  pub ended : length s ≤ at → Wrote before 0 (answers_text first (calls_at s from)) now end
-  ended k = all (past s (length s) at k)
+  -- where no call can be read
+  pub ended : None ≡ call_line s at → Wrote before 0 (answers_text first (calls_at s from)) now end
+  ended e = all (calls_none s at (sym e))
 
-  module _ (inside : at < length s) {line : CallLine} (e : line ≡ call_line s at) where
-    -- at a line that cannot be read
-    pub stopped : line_after line ≡ 0 → Wrote before 0 (answers_text first (calls_at s from)) now end
-    stopped z = all (calls_bad s at inside (ap line_after (sym e) ∙ z))
-
-    -- after a call
-    pub onward : {next end' : ℕ} {held' : Record} {now' : List ℕ} → length s ≤ input_limit → next ≡ line_after line → (next ≡ 0 → ⊥)
-        → held' ≡ after held (call_in line) → Wrote now end (answers_text held (call_in line)) now' end' → end' ≤ end + 60
-        → Playing s from first before held' now' next end'
-    onward {next} {end'} {held'} {now'} short p z g w b =
-        let q : line_after (call_line s at) ≡ next = ap line_after (sym e) ∙ sym p in
-        let a : at + 9 ≤ next = ahead s at q z in
-        let c : calls_at s at ≡ call_in line ++ calls_at s next = calls_next s at inside (λ y. z (sym q ∙ y)) ∙ rw (q, e) refl in
-        record {
-          done = h.done ++ answers_text held (call_in line);
-          wrote = then h.wrote w;
-          left = h.left ∙ ap (λ (cs : List Call). h.done ++ answers_text held cs) c
-              ∙ ap (λ (l : List ℕ). h.done ++ l) (answers_append held (call_in line) (calls_at s next))
-              ∙ sym (append_assoc h.done (answers_text held (call_in line)) (answers_text (after held (call_in line)) (calls_at s next)))
-              ∙ rw g refl;
-          few = omega (arith, h.few, b, a);
-          short = omega (arith, h.few, b, short);
-        }
+  -- after a call
+  pub onward : {c : Call} {next end' : ℕ} {a : Answered} {now' : List ℕ} → length s ≤ input_limit → Some (c, next) ≡ call_line s at
+      → a ≡ answered_of held c → Wrote now end (answer_line a.answer) now' end' → end' ≤ end + 60 → Playing s from first before a.next now' next end'
+  unfolding answers_text
+  onward {c} {next} {end'} {a} {now'} short e g w b =
+      let r : at + 9 ≤ next = line_reach s at (sym e) in
+      let i = line_inside s at (sym e) in
+      let x = answered_of held c in
+      record {
+        done = h.done ++ answer_line a.answer;
+        wrote = then h.wrote w;
+        left = h.left ∙ ap (λ (cs : List Call). h.done ++ answers_text held cs) (calls_next s at (sym e))
+            ∙ rw g (sym (append_assoc h.done (answer_line x.answer) (answers_text x.next (calls_at s next))));
+        few = omega (arith, h.few, b, r);
+        short = omega (arith, h.few, b, short, i);
+      }

@@ -10,7 +10,7 @@ use crate::played::play_calls;
 use calls_text::INPUT;
 use calls_text::calls::{calls_place, first_bad};
 use dispatch::Record;
-use table_text::{NUMBERS, Reading, read_text};
+use table_text::{NUMBERS, TableRead, read_text};
 use units::refusal::Refusal;
 use writing::refused::put_refusal;
 
@@ -76,7 +76,7 @@ pub fn play(text: &[u8], out: &mut [u8]) -> usize
     let place = calls_place(text);
     let mut table = [0u32; NUMBERS];
     match read_text(&text[0..place], &mut table) {
-        Reading::Unreadable(line) => put_unreadable(out, line),
-        Reading::Read { cores, count } => play_table(text, place, cores, &table[0..count], out),
+        Err(line) => put_unreadable(out, line),
+        Ok(TableRead { cores, count }) => play_table(text, place, cores, &table[..count], out),
     }
 }

@@ -1,17 +1,15 @@
--- Parts of a rehearsal's steps: what their code's steps give, and what they are.
-use Prim.Native.Nat.{ℕ, zero, suc, ◌+◌, ◌*◌, ◌≤◌, ◌<◌}
-use mathlib.Core.Path.{◌≡◌, refl, sym, ◌∙◌}
+-- Parts of a rehearsal's steps: what they are.
+use Prim.Native.Nat.{ℕ, zero, suc, ◌*◌, ◌≤◌, ◌<◌}
+use mathlib.Core.Path.{◌≡◌, refl, ◌∙◌}
 use mathlib.Core.Logic.{◌⊎◌, inl, inr}
 use mathlib.Core.List.{List}
-use native.Mathlib.Numerals.{add-one}
 use native.Mathlib.Omega.{arith}
 use lib.Dec.{ltb, eqb}
 use lib.ListN.{length, get_or}
 use lib.Seq.{get_or-set_same, get_or-set_other}
-use borrow.Author.Tests.{ltb-true, ltb-false, lt-ltb, le-ltb, eqb-true, eqb-false}
+use borrow.Author.Tests.{ltb-true, ltb-false, eqb-true, eqb-false}
 use Rattle.lists.proofs.Tests.{by_cases}
 use Rattle.units.specs.Limits.{tasks_limit}
-use Rattle.units.specs.Units.{ticks}
 use Rattle.planning.specs.declared.Line.{Line}
 use Rattle.planning.specs.Plan.{no_line}
 use Rattle.task_state.specs.State.{fresh_state}
@@ -19,28 +17,9 @@ use Rattle.arrivals.specs.Arrivals.{arrivals_in, arrival_time}
 use Rattle.run_lengths.specs.Work.{fresh_work}
 use Rattle.fronts.specs.declared.Front.{Front}
 use Rattle.fronts.specs.Front.{no_front, front_of}
-use Rattle.fronts.specs.Inner.{Frontable}
-use Rattle.front_rows.specs.Rows.{fronts_in, put_front}
+use Rattle.front_rows.specs.Rows.{fronts_in}
 use Rattle.front_rows.proofs.Rows.{fronts_long, put_long, fronts_put}
-use Rattle.seats.proofs.Fresh.{written_state, written_work}
-use Rattle.instants.specs.declared.Seen.{Seen}
-use Rattle.instants.specs.Seen.{least_left}
-use Rattle.instants.proofs.Least.{least_whole, least_part}
-use Rattle.rehearsal.specs.Parts.{coming_at, fresh_fronts, core_after}
-
--- when the next arrival comes: there is one before the stop, it is no earlier, or there is none
-module _ (xs : List ℕ) (k stop : ℕ) where
-  pub comes : k < arrivals_in xs → arrival_time xs k < stop → ticks (arrival_time xs k) ≡ ticks (coming_at xs k stop)
-  unfolding coming_at
-  comes h t = rw (lt-ltb k (arrivals_in xs) h, lt-ltb (arrival_time xs k) stop t)
-
-  pub comes_later : k < arrivals_in xs → stop ≤ arrival_time xs k → ticks stop ≡ ticks (coming_at xs k stop)
-  unfolding coming_at
-  comes_later h t = rw (lt-ltb k (arrivals_in xs) h, le-ltb (arrival_time xs k) stop t)
-
-  pub comes_none : arrivals_in xs ≤ k → ticks stop ≡ ticks (coming_at xs k stop)
-  unfolding coming_at
-  comes_none h = rw (le-ltb k (arrivals_in xs) h)
+use Rattle.rehearsal.specs.Parts.{coming_at, fresh_fronts}
 
 -- an arrival before the stop, or the stop, where none is before it
 pub coming_cases : (xs : List ℕ) (k stop : ℕ)
@@ -55,27 +34,11 @@ coming_cases xs k stop =
     (λ f. inr (rw (e, f), λ h. ltb-false (arrival_time xs k) stop f)))
     (λ e. inr (rw e, λ h. absurd (omega (arith, ltb-false k (arrivals_in xs) e))))
 
--- a front of a task that has had no run can be asked
-pub fresh_asked : (ln : Line) → Frontable ln written_state written_work
-fresh_asked ln = record {
-  placed = λ h. absurd (omega arith);
-  here = λ h. absurd (omega arith);
-  due = λ h. absurd (omega arith);
-  few = omega arith;
-}
-
 -- task n's front, in turn
 abbrev fresh_at : List Line → ℕ → Front
 fresh_at ls n = front_of (get_or ls n no_line) fresh_state fresh_work
 
 module _ (xs : List ℕ) where
-  -- one task more
-  pub fresh_more : (ls : List Line) (n : ℕ) {ys : List ℕ} → ys ≡ fresh_fronts xs ls n → {x : Front} → x
-      ≡ front_of (get_or ls n no_line) written_state written_work
-      → put_front ys n x ≡ fresh_fronts xs ls (n + 1)
-  unfolding fresh_fronts fresh_state fresh_work
-  fresh_more ls n e q = rw (add-one n, ← e, q)
-
   -- as many numbers
   pub fresh_rows : (ls : List Line) (n : ℕ) → length (fresh_fronts xs ls n) ≡ length xs
   unfolding fresh_fronts
@@ -96,13 +59,3 @@ module _ (xs : List ℕ) where
       (λ e.
       let other = eqb-false i n e in
       get_or-set_other (fronts_in ys) n i (fresh_at ls n) no_front other ∙ fresh_front long ls n i (omega (arith, h, other)) (omega (arith, l))))
-
--- a jump of at most v ticks: all of them, where each choice has more left, or to the first that is done
-module _ (ss : List Seen) (v n : ℕ) {m : ℕ} (e : m ≡ least_left ss (v + 1) n) where
-  pub jump_whole : v < m → (v ≡ least_left ss v n) × (n ≡ core_after ss v n)
-  unfolding core_after
-  jump_whole l = let k = rw e at l in (sym (least_whole ss v n k), rw (lt-ltb v (least_left ss (v + 1) n) k))
-
-  pub jump_part : m ≤ v → (m ≡ least_left ss v n) × (0 ≡ core_after ss v n)
-  unfolding core_after
-  jump_part l = let k = rw e at l in (e ∙ sym (least_part ss v n k), rw (le-ltb v (least_left ss (v + 1) n) k))

@@ -1,7 +1,7 @@
 -- The steps' invariant: what the code holds is the model's desk, and what it has written is what that has said.
 use Prim.Native.Nat.{ℕ, zero, suc, ◌+◌, ◌-◌, ◌*◌, ◌/◌, ◌≤◌, ◌<◌}
 use mathlib.Core.Path.{◌≡◌, refl, sym, ap, ◌∙◌}
-use mathlib.Core.Bool.{Bool, true, false, cond}
+use mathlib.Core.Bool.{Bool, true, false, cond, ◌||◌}
 use mathlib.Core.List.{List, [], ◌∷◌, ◌++◌}
 use native.Mathlib.Nat.{div-add-mod'}
 use native.Mathlib.Omega.{arith}
@@ -9,7 +9,7 @@ use native.Mathlib.Numerals.{add-one}
 use lib.Dec.{ltb, eqb}
 use borrow.Author.Tests.{ltb-true, ltb-false}
 use native.Mathlib.Decide.{ℕ_discrete}
-use Rattle.lists.proofs.Tests.{and_left}
+use Rattle.lists.proofs.Tests.{and_left, or_cases}
 use Rattle.writing.specs.Inner.{place_limit}
 use Rattle.units.specs.Units.{ticks}
 use mathlib.Core.Logic.{◌⊎◌, inl, inr}
@@ -320,7 +320,14 @@ module _ {pl : Plan} {xs : List ℕ} {stop skip : ℕ} {before now fs hs gs : Li
           })
 
   -- the cores are through
-  module _ (over : d.cores ≤ d.core) (early : d.time < stop) where
+  module _ (over : d.cores ≤ d.core) (onward : (ltb d.core d.cores || ltb d.time stop) ≡ true) where
+    pub early : d.time < stop
+    early = go (or_cases (ltb d.core d.cores) (ltb d.time stop) onward)
+      where
+        go : (ltb d.core d.cores ≡ true) ⊎ (ltb d.time stop ≡ true) → d.time < stop
+        go (inl e) = absurd (omega (arith, over, ltb-true d.core d.cores e))
+        go (inr e) = ltb-true d.time stop e
+
     past : pl.cores ≤ d.core
     past = omega (arith, over, h.cores)
 

@@ -8,7 +8,7 @@ ghost use Rattle.day.specs.Desk.{desk_at};
 ghost use Rattle.rehearsal.specs.Desk.{fresh_desk};
 ghost use Rattle.rehearsal.specs.Inner.{on_core, Rehearsable, Blank, Stood};
 
-use crate::parts::{coming_at, done_by, fresh_fronts, jump_from, place_of};
+use crate::parts::{coming_at, done_by, fresh_fronts, jump_from};
 use day_lines::{Event, Ran};
 use day_window::put_within;
 use day_writing::{put_arrival, put_spans};
@@ -40,7 +40,7 @@ fn fresh_desk(cores: usize) -> Desk
         time: 0,
         next: 0,
         core: cores,
-        cores: cores,
+        cores,
         end: 0,
     }
 }
@@ -60,12 +60,11 @@ fn put_finish(
     ensures upper_bound { result ≤ at + 180 }
 {
     let ran = Ran {
-        core: core,
+        core,
         task: run.task,
         run: run.run,
     };
-    let late = ended.late;
-    put_within(out, skip, at, Event::Finished(ran, time, late))
+    put_within(out, skip, at, Event::Finished(ran, time, ended.late))
 }
 
 // All steps up to the stop, and what they say. Fronts, ticks had and the runs that have the cores are lent, since numbers that are lent are not copied.
@@ -86,19 +85,19 @@ pub(crate) fn rehearse(
 {
     let mut desk = fresh_desk(plan.cores as usize);
     fresh_fronts(plan, fronts);
+    // No range: each step moves on one of three, the core, the next arrival or the time.
     while (desk.core < desk.cores) | (desk.time < stop.0) {
         let time = Ticks(desk.time);
         let coming = coming_at(arrivals, desk.next, stop);
         if desk.core < desk.cores {
             let run = going_in(goings, desk.core);
             desk.core += 1;
-            let i = place_of(run.task);
+            let i = run.task.saturating_sub(1);
             let front = front_in(fronts, i);
             if done_by(run, front, had[i]) {
                 let ended = desk.seats[i].end(plan.lines[i], time);
                 desk.end = put_finish(out, skip, desk.end, desk.core, run, time, ended);
-                let seat = ended.seat;
-                desk.seats[i] = seat;
+                desk.seats[i] = ended.seat;
                 store_front(fronts, i, ended.front);
                 had[i] = 0;
             }
@@ -108,14 +107,12 @@ pub(crate) fn rehearse(
             desk.next += 1;
             let arrived = desk.seats[i].arrive(plan.lines[i], time, length);
             desk.end = put_arrival(out, skip, desk.end, arrived.refusal, desk.next, i + 1, time);
-            let seat = arrived.seat;
-            desk.seats[i] = seat;
+            desk.seats[i] = arrived.seat;
             store_front(fronts, i, arrived.front);
         } else {
             let instant = scan(fronts, had, plan.count, time, coming);
             let jump = jump_from(instant, desk.cores, time);
-            let seen = instant.seen;
-            desk.end = put_spans(out, skip, desk.end, goings, seen, desk.cores, time);
+            desk.end = put_spans(out, skip, desk.end, goings, instant.seen, desk.cores, time);
             ran_by(had, goings, desk.cores, jump.more);
             desk.time += jump.more;
             desk.core = jump.core;

@@ -8,7 +8,7 @@ ghost use Rattle.rehearsal_answer.specs.Answer.{tested_text, planned_text, rehea
 ghost use Rattle.rehearsal_answer.specs.Inner.{Stoppable};
 
 use arrivals::arrivals_refusal;
-use day_text::{DayReading, NUMBERS as ARRIVED, read_day};
+use day_text::{NUMBERS as ARRIVED, read_day};
 use planning::{Plan, plan_of};
 use rehearsal::ending::write_day;
 use table_text::NUMBERS;
@@ -20,6 +20,14 @@ use writing::refused::put_refusal;
 
 // Bytes of a refusal's line, at most.
 const LINE: usize = 60;
+
+// A day that is asked for: its stop, its arrivals, and whether a line is left after them.
+#[derive(Clone, Copy)]
+struct Day<'a> {
+    stop: u64,
+    arrivals: &'a [u64],
+    more: bool,
+}
 
 // A refusal's line from a byte on, as far as the buffer reaches, and the line's length.
 fn put_refusal_within(out: &mut [u8], skip: usize, refusal: Refusal) -> usize
@@ -34,54 +42,37 @@ fn put_refusal_within(out: &mut [u8], skip: usize, refusal: Refusal) -> usize
 }
 
 // The day, if no arrival is refused and no line is left.
-fn put_tested(
-    plan: Plan,
-    stop: u64,
-    arrivals: &[u64],
-    more: bool,
-    skip: usize,
-    out: &mut [u8],
-) -> usize
-    requires { Stoppable plan stop }
-    ensures { Windowed out.old skip 0 (tested_text plan stop arrivals.now more) out.new result }
+fn put_tested(plan: Plan, day: Day, skip: usize, out: &mut [u8]) -> usize
+    requires { Stoppable plan day.stop }
+    ensures { Windowed out.old skip 0 (tested_text plan day.entry.stop day.entry.arrivals.now day.entry.more) out.new result }
 {
-    let refusal = arrivals_refusal(plan, arrivals);
+    let refusal = arrivals_refusal(plan, day.arrivals);
     if refusal.no != 0 {
         return put_refusal_within(out, skip, refusal);
     }
-    if more {
-        let named = arrivals.len() / 3 + 1;
+    if day.more {
         return put_refusal_within(
             out,
             skip,
             Refusal {
                 no: Refusal::ARRIVAL,
-                named: named,
+                named: day.arrivals.len() / 3 + 1,
             },
         );
     }
-    write_day(plan, arrivals, Ticks(stop), skip, out)
+    write_day(plan, day.arrivals, Ticks(day.stop), skip, out)
 }
 
 // The day of a table that is taken, if its stop is within the clock's limit.
-fn put_planned(
-    cores: u32,
-    table: &[u32],
-    stop: u64,
-    arrivals: &[u64],
-    more: bool,
-    skip: usize,
-    out: &mut [u8],
-) -> usize
-    ensures { Windowed out.old skip 0 (planned_text (plan_of cores table.now) stop arrivals.now more)
-        out.new result }
+fn put_planned(cores: u32, table: &[u32], day: Day, skip: usize, out: &mut [u8]) -> usize
+    ensures { Windowed out.old skip 0 (planned_text (plan_of cores table.now) day.entry.stop day.entry.arrivals.now day.entry.more) out.new result }
 {
     let planned = plan_of(cores, table);
     let refusal = planned.refusal;
     if refusal.no != 0 {
         return put_refusal_within(out, skip, refusal);
     }
-    if CLOCK < stop {
+    if CLOCK < day.stop {
         return put_refusal_within(
             out,
             skip,
@@ -91,7 +82,7 @@ fn put_planned(
             },
         );
     }
-    put_tested(planned.plan, stop, arrivals, more, skip, out)
+    put_tested(planned.plan, day, skip, out)
 }
 
 // The program's answer to an input from a byte on, as far as the buffer reaches, and the whole answer's length.
@@ -101,7 +92,7 @@ pub fn answer(text: &[u8], skip: usize, out: &mut [u8]) -> usize
     let mut table = [0u32; NUMBERS];
     let mut arrivals = [0u64; ARRIVED];
     match read_day(text, &mut table, &mut arrivals) {
-        DayReading::Unreadable(line) => put_refusal_within(
+        Err(line) => put_refusal_within(
             out,
             skip,
             Refusal {
@@ -109,20 +100,13 @@ pub fn answer(text: &[u8], skip: usize, out: &mut [u8]) -> usize
                 named: line,
             },
         ),
-        DayReading::Read {
-            cores,
-            count,
-            stop,
-            numbers,
-            more,
-        } => put_planned(
-            cores,
-            &table[0..count],
-            stop,
-            &arrivals[0..numbers],
-            more,
-            skip,
-            out,
-        ),
+        Ok(read) => {
+            let day = Day {
+                stop: read.stop,
+                arrivals: &arrivals[..read.numbers],
+                more: read.more,
+            };
+            put_planned(read.cores, &table[..read.count], day, skip, out)
+        }
     }
 }

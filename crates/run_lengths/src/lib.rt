@@ -35,15 +35,11 @@ impl Work {
         requires { self.ended < clock_limit }
         ensures { result ≡ without_length self }
     {
-        let n1 = self.lengths[1];
-        let n2 = self.lengths[2];
-        let n3 = self.lengths[3];
-        let n4 = self.lengths[4];
-        let n5 = self.lengths[5];
-        let n6 = self.lengths[6];
-        let n7 = self.lengths[7];
+        let mut lengths = self.lengths;
+        lengths[0] = 0;
+        lengths.rotate_left(1);
         Work {
-            lengths: [n1, n2, n3, n4, n5, n6, n7, 0],
+            lengths,
             ended: self.ended + 1,
         }
     }

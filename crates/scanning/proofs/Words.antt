@@ -1,70 +1,57 @@
 -- The equations of a word at a place, as the code meets them.
+use Rattle.std.specs.declared.option.Option.TheVariants.{Some, None}
+use Rattle.std.proofs.Common.{Bor}
+use Rattle.std.specs.Option.{MatchOption, unwrap_or}
+use Rattle.std.specs.List.{starts_with, slice_range}
+use Rattle.std.specs.Prelude.{Option, Bool, true, false, ◌&&◌}
 use Prim.Native.Nat.{ℕ, ◌+◌, ◌≤◌, ◌<◌}
 use mathlib.Core.Path.{◌≡◌, refl, sym, ap, ◌∙◌}
-use mathlib.Core.Bool.{true, false}
-use mathlib.Core.List.{List, ◌∷◌}
-use native.Mathlib.Numerals.{add-one}
+use mathlib.Core.Logic.{◌⊎◌}
+use mathlib.Core.List.{List, [], ◌∷◌}
 use native.Mathlib.Omega.{arith}
-use borrow.Author.Tests.{eq-eqb, ne_eqb}
-use lib.ListN.{length, get_or, drop, drop_of_length-le}
-use lib.Seq.{drop-cons}
+use borrow.Author.Tests.{ne_eqb, eqb-true, eqb-false}
+use lib.Dec.{eqb}
+use lib.ListN.{length, drop, drop_of_length-le}
 use Rattle.lists.proofs.Tests.{by_cases}
 use Rattle.scanning.specs.Word.{starts, word_at}
-use Rattle.scanning.specs.declared.word.Word.TheVariants.{After, NoWord}
+use Rattle.scanning.proofs.Fields.{rest_is}
 
--- while a word is read: i bytes of it stand from a place on, and the rest decides
-pub record Reading (w s : List ℕ) (at i next : ℕ) : Type 0 where
-  pub far : next ≡ at + i
-  pub within : i ≤ length w
-  pub same : starts w (drop at s) ≡ starts (drop i w) (drop next s)
+-- what the library says of a part of a text that reaches to its end
+abbrev pub Lookup : List ℕ → ℕ → Option (Bor (List ℕ)) → Type 0
+Lookup s at o =
+    MatchOption o ((length s < at) ⊎ (length s < length s))
+    (λ x. (at ≤ length s) × (length s ≤ length s) × (x.now ≡ slice_range s at (length s)) × (length x.now + at ≡ length s))
 
-pub begun : (w s : List ℕ) (at : ℕ) → Reading w s at 0 at
-begun w s at = record { far = omega arith; within = omega arith; same = refl }
+-- two bytes are compared in either order
+either_order : (a b : ℕ) → eqb a b ≡ eqb b a
+either_order a b = by_cases (eqb a b) (λ h. rw (eqb-true a b h) refl) (λ h. h ∙ sym (ne_eqb b a (λ e. eqb-false a b h (sym e))))
 
-module _ (w s : List ℕ) (at i next : ℕ) (h : Reading w s at i next) where
-  -- the byte at a place comes first of those from there on
-  first_byte : (l : List ℕ) (k : ℕ) → k < length l → drop k l ≡ get_or l k 0 ∷ drop (k + 1) l
-  first_byte l k p = drop-cons l k 0 p ∙ ap (λ (j : ℕ). get_or l k 0 ∷ drop j l) (sym (add-one k))
+-- the library's test is that the text starts with the word
+pub starts_is : (w s : List ℕ) → starts_with eqb s w ≡ starts w s
+starts_is [] s = refl
+starts_is (c ∷ w) [] = refl
+starts_is (c ∷ w) (b ∷ s) = rw (either_order c b) (ap (λ (t : Bool). eqb b c && t) (starts_is w s))
 
-  module _ (more : i < length w) where
-    -- the text ends before the word
-    pub cut : length s ≤ next → word_at w s at ≡ NoWord
-    unfolding word_at
-    cut p = rw (h.same, first_byte w i more, drop_of_length-le s p)
-
-    -- another byte
-    pub other : next < length s → (get_or s next 0 ≡ get_or w i 0 → ⊥) → word_at w s at ≡ NoWord
-    unfolding word_at
-    other p q = rw (h.same, first_byte w i more, first_byte s next p, ne_eqb _ _ q)
-
-    -- the same byte
-    pub next_byte : next < length s → get_or s next 0 ≡ get_or w i 0 → Reading w s at (i + 1) (next + 1)
-    next_byte p q = record {
-      far = omega (arith, h.far);
-      within = omega arith;
-      same = h.same ∙ rw (first_byte w i more, first_byte s next p, eq-eqb _ _ q) refl;
-    }
-
-  -- the whole word
-  pub whole : length w ≤ i → After next ≡ word_at w s at
-  unfolding word_at
-  whole p =
-      let e : next ≡ at + length w = omega (arith, h.far, h.within) in
-      rw (h.same, drop_of_length-le w p, e)
+-- what is left of a text from a place on, and nothing past its end
+pub rest_from : (s : List ℕ) (at : ℕ) (o : Option (Bor (List ℕ))) (past : Bor (List ℕ)) → past.now ≡ [] → Lookup s at o → (unwrap_or o past).now ≡ drop at s
+rest_from s at None past e h = e ∙ sym (drop_of_length-le s (omega (arith, h)))
+rest_from s at (Some x) past e h = h.2 ∙ rest_is s at
 
 module _ (w s : List ℕ) (at : ℕ) where
+  -- a word that stands there is read
+  pub read_here : starts w (drop at s) ≡ true → Some (at + length w) ≡ word_at w s at
+  unfolding word_at
+  read_here e = rw e refl
+
+  -- another is not
+  pub read_none : starts w (drop at s) ≡ false → None ≡ word_at w s at
+  unfolding word_at
+  read_none e = rw e refl
+
   -- a word that was read stands there, and ends after its length
-  pub word_here : {next : ℕ} → word_at w s at ≡ After next → (starts w (drop at s) ≡ true) × (next ≡ at + length w)
+  pub word_here : {next : ℕ} → word_at w s at ≡ Some next → (starts w (drop at s) ≡ true) × (next ≡ at + length w)
   unfolding word_at
   word_here {next} e =
       by_cases (starts w (drop at s))
       (λ h. let f = rw h at e in let z : at + length w ≡ next = cc in (h, sym z))
       (λ h. let f = rw h at e in let z : ◌≡◌ {A = ℕ} 0 1 = cc in absurd (omega arith))
-
-  -- one that was not does not
-  pub word_none : word_at w s at ≡ NoWord → starts w (drop at s) ≡ false
-  unfolding word_at
-  word_none e =
-      by_cases (starts w (drop at s))
-      (λ h. let f = rw h at e in let z : ◌≡◌ {A = ℕ} 0 1 = cc in absurd (omega arith))
-      (λ h. h)

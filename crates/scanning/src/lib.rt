@@ -2,5 +2,6 @@
 #![tactic(auto)]
 
 pub mod line;
+pub mod lines;
 pub mod number;
 pub mod word;

@@ -3,13 +3,6 @@ ghost use Rattle.std.specs.Prelude.{◌≡◌, ◌≤◌, ◌<◌, length, drop}
 ghost use Rattle.scanning.specs.Number.{digit_of, digits_of, number_at};
 ghost use Rattle.scanning.specs.Inner.{Bound};
 
-// A number and the place after it.
-#[derive(Clone, Copy)]
-pub enum Number {
-    Value(u64, usize),
-    NoNumber,
-}
-
 // What a byte is as a digit, and 10 if it is none.
 fn digit(b: u8) -> u64
     ensures value { result ≡ digit_of b }
@@ -25,42 +18,40 @@ fn digit(b: u8) -> u64
 }
 
 // The digits that follow a number's first.
-fn digits(text: &[u8], from: usize, first: u64, bound: u64) -> Number
+fn digits(text: &[u8], from: usize, first: u64, bound: u64) -> Option<(u64, usize)>
     requires { (from ≤ length text.now) × (first < bound) × Bound bound }
     ensures { result ≡ digits_of bound (drop from text.now) first from }
 {
-    let mut at = from;
     let mut v = first;
-    while at < text.len() {
+    for at in from..text.len() {
         let d = digit(text[at]);
         if 9 < d {
-            return Number::Value(v, at);
+            return Some((v, at));
         }
         let w = v * 10 + d;
         if bound <= w {
-            return Number::NoNumber;
+            return None;
         }
         v = w;
-        at += 1;
     }
-    Number::Value(v, at)
+    Some((v, text.len()))
 }
 
-// The number at a place of the text, below a bound.
-pub(crate) fn read_number(text: &[u8], at: usize, bound: u64) -> Number
+// The number at a place of the text, below a bound, and the place after it.
+pub(crate) fn read_number(text: &[u8], at: usize, bound: u64) -> Option<(u64, usize)>
     requires { Bound bound }
     ensures { result ≡ number_at bound text.now at }
 {
     if text.len() <= at {
-        return Number::NoNumber;
+        return None;
     }
     let d = digit(text[at]);
     if 9 < d {
-        return Number::NoNumber;
+        return None;
     }
     let next = at + 1;
     if d == 0 {
-        return Number::Value(0, next);
+        return Some((0, next));
     }
     digits(text, next, d, bound)
 }

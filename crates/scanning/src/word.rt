@@ -2,28 +2,14 @@
 ghost use Rattle.std.specs.Prelude.{◌≡◌};
 ghost use Rattle.scanning.specs.Word.{word_at};
 
-// The place after a word.
-#[derive(Clone, Copy)]
-pub enum Word {
-    After(usize),
-    NoWord,
-}
-
-// The word at a place of the text.
-pub fn read_word(text: &[u8], at: usize, word: &[u8]) -> Word
+// The place after a word, if it stands at a place of the text.
+pub fn read_word(text: &[u8], at: usize, word: &[u8]) -> Option<usize>
     ensures { result ≡ word_at word.now text.now at }
 {
-    let mut next = at;
-    let mut i = 0;
-    while i < word.len() {
-        if text.len() <= next {
-            return Word::NoWord;
-        }
-        if text[next] != word[i] {
-            return Word::NoWord;
-        }
-        next += 1;
-        i += 1;
+    let rest = text.get(at..).unwrap_or(&[]);
+    if rest.starts_with(word) {
+        Some(at + word.len())
+    } else {
+        None
     }
-    Word::After(next)
 }

@@ -43,57 +43,49 @@ pub struct Ended {
 
 impl Seat {
     // A run of a length arrives.
+    #[tactic(auto, unfolding(crate::specs::Seat::arrived_of, task_state::specs::Runs::taken_run))]
     pub fn arrive(self, line: Line, time: Ticks, length: u64) -> Arrived
         requires { Arrivable line self.state self.work time.0 length }
         ensures { result ≡ arrived_of line self.state self.work time.0 length }
     {
-        let state = self.state;
-        let work = self.work;
+        let Seat { state, work } = self;
         let no = state.release_tests(line, time);
         if no != 0 {
-            let front = front_of(line, state, work);
             return Arrived {
                 refusal: no,
                 seat: self,
-                front: front,
+                front: front_of(line, state, work),
             };
         }
-        let at = state.live as usize;
-        let taken = state.with_run(line, time);
-        let after = taken.state;
-        let more = work.with_run(at, length);
-        let front = front_of(line, after, more);
-        let seat = Seat {
-            state: after,
-            work: more,
-        };
+        let after = state.with_run(line, time).state;
+        let more = work.with_run(state.live as usize, length);
         Arrived {
             refusal: 0,
-            seat: seat,
-            front: front,
+            seat: Seat {
+                state: after,
+                work: more,
+            },
+            front: front_of(line, after, more),
         }
     }
 
     // Its oldest run ends.
+    #[tactic(auto, unfolding(crate::specs::Seat::ended_of))]
     pub fn end(self, line: Line, time: Ticks) -> Ended
         requires { Endable line self.state self.work time.0 }
         ensures { result ≡ ended_of line self.state self.work time.0 }
     {
-        let state = self.state;
-        let work = self.work;
-        let oldest = state.deadlines[0];
-        let late = time.0 as i64 - oldest.0 as i64;
+        let Seat { state, work } = self;
+        let late = time.0 as i64 - state.deadlines[0].0 as i64;
         let after = state.without_run();
         let less = work.without_run();
-        let front = front_of(line, after, less);
-        let seat = Seat {
-            state: after,
-            work: less,
-        };
         Ended {
-            late: late,
-            seat: seat,
-            front: front,
+            late,
+            seat: Seat {
+                state: after,
+                work: less,
+            },
+            front: front_of(line, after, less),
         }
     }
 }

@@ -3,19 +3,11 @@
 
 use sheet_answer::INPUT;
 use sheet_answer::sheet::{ANSWER, answer_sheet};
-use streams::{Input, read_input, write_output};
+use streams::answer_input;
 
 // One byte more than an input may have, so that a longer one is seen as such.
-const BYTES: usize = INPUT + 1;
+const TEXT: usize = INPUT + 1;
 
 fn main(rt: HostRuntime) {
-    let mut text = [0u8; BYTES];
-    match read_input(&rt, &mut text) {
-        Input::Failed => {}
-        Input::Got(n) => {
-            let mut out = [0u8; ANSWER];
-            let r = answer_sheet(&text[0..n], &mut out);
-            write_output(&rt, &out[0..r]);
-        }
-    }
+    answer_input::<TEXT, ANSWER, _, _>(&rt, answer_sheet);
 }

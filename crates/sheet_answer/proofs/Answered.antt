@@ -1,32 +1,31 @@
 -- The answers of both programs, as the code meets them.
-use Prim.Native.Nat.{ℕ, ◌-◌, ◌≤◌}
-use mathlib.Core.Path.{◌≡◌, refl, sym, ap, ◌∙◌, subst}
+use Rattle.std.specs.declared.option.Option.TheVariants.{Some, None}
+use Prim.Native.Nat.{ℕ, ◌≤◌}
+use mathlib.Core.Path.{◌≡◌, refl, sym, ◌∙◌, subst}
 use mathlib.Core.List.{List}
-use native.Mathlib.Nat.{sub-zero}
 use native.Mathlib.Omega.{arith}
 use borrow.Author.Tests.{ne_eqb, le-leb}
 use lib.ListN.{length, take, length-take}
 use lib.Seq.{length-sets}
-use Rattle.writing.specs.Field.{field, line_end}
-use Rattle.writing.specs.Wrote.{Wrote}
-use Rattle.writing.specs.Refused.{refusal_text}
-use Rattle.writing.proofs.Wrote.{then, recast, fitted}
 use Rattle.lists.specs.Lists.{zeros}
-use Rattle.name_list.specs.Names.{names_text, names_of}
-use Rattle.sheet_text.specs.Job.{names_in, ticks_in}
 use Rattle.soundness.proofs.Taken.{plan_number, plan_kept}
 use Rattle.soundness.proofs.PlannedSound.{plan_sound_lem}
 use Rattle.soundness.proofs.PlannedShape.{started_plan}
+use Rattle.writing.specs.Field.{field, line_end}
+use Rattle.writing.specs.Wrote.{Wrote}
+use Rattle.writing.specs.Refused.{refusal_text}
+use Rattle.writing.proofs.Wrote.{then, fitted}
+use Rattle.scanning.specs.Number.{Number}
+use Rattle.table_text.specs.Text.{cores_line}
 use Rattle.listing.specs.Listing.{listing_text}
 use Rattle.listing.specs.Listed.{listing_limit, plan_listed, plan_after}
 use Rattle.listing.specs.declared.listed.Listed.{Listed}
 use Rattle.listing.proofs.Fits.{listing_length}
+use Rattle.name_list.specs.Names.{names_text, names_of}
+use Rattle.sheet_text.specs.Job.{names_in, ticks_in}
 use Rattle.sheet_reading.specs.Read.{names_limit, unread, plan_sheet}
 use Rattle.sheet_reading.specs.declared.Sheet.{Sheet}
 use Rattle.sheet_reading.proofs.Taken.{Taken, is_taken, names_short}
-use Rattle.scanning.specs.declared.number.Number.{Number}
-use Rattle.scanning.specs.declared.number.Number.TheVariants.{Value, NoNumber}
-use Rattle.table_text.specs.Text.{cores_line}
 use Rattle.sheet_answer.specs.Inner.{answer_limit, Listable}
 use Rattle.sheet_answer.specs.Input.{after_cores, input_sheet}
 use Rattle.sheet_answer.specs.Answers.{name_lines, named_listing, answer_by}
@@ -49,8 +48,8 @@ unfolding input_sheet after_cores unread
 listable s {sh} e h = rw e (go (cores_line s) (rw e at h))
   where
     go : (n : Number) → (after_cores s n).refusal.no ≡ 0 → Listable (after_cores s n)
-    go (Value m at) k = taken_listable (is_taken m _ k)
-    go NoNumber k = absurd (omega (arith, k))
+    go (Some (m, at)) k = taken_listable (is_taken m _ k)
+    go None k = absurd (omega (arith, k))
 
 -- the listing of such a sheet's plan, in a buffer that holds any answer
 pub listed : {sh : Sheet} (g : Listable sh) {a b : List ℕ} {l : Listed} (room : answer_limit ≤ length a) → l ≡ plan_listed sh.plan (length a)
@@ -63,14 +62,14 @@ listed {sh} g {a} room e f =
     rw (e, f, z) (fitted h, short)
 
 -- the names of such a sheet
-pub names_few : {sh : Sheet} → Listable sh → length (take (sh.length - 0) sh.names) ≤ names_limit
-names_few {sh} g = omega (arith, length-take (sh.length - 0) sh.names, g.few)
+pub names_few : {sh : Sheet} → Listable sh → length (take sh.length sh.names) ≤ names_limit
+names_few {sh} g = omega (arith, length-take sh.length sh.names, g.few)
 
 -- the three parts of the answer, one after the other
 pub parts : (sh : Sheet) {a b c d e : List ℕ} {i j k l : ℕ} → Wrote a 0 (listing_text sh.plan) b i → Wrote b i (field "tick " sh.tick) c j
-    → Wrote c j line_end d k → Wrote d k (name_lines 1 (names_of (take (sh.length - 0) sh.names))) e l → Wrote a 0 (named_listing sh) e l
+    → Wrote c j line_end d k → Wrote d k (name_lines 1 (names_of (take sh.length sh.names))) e l → Wrote a 0 (named_listing sh) e l
 unfolding named_listing
-parts sh w x y z = then (then w (then x y)) (recast (ap (λ (n : ℕ). name_lines 1 (names_of (take n sh.names))) (sub-zero sh.length)) z)
+parts sh w x y z = then (then w (then x y)) z
 
 -- a refused sheet is answered by its refusal's line
 module _ (text : Sheet → List ℕ) {sh : Sheet} {q : Sheet} (e : sh ≡ q) where

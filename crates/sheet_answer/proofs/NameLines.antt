@@ -1,5 +1,6 @@
 -- Writing a line for each task's name.
-use Prim.Native.Nat.{ℕ, ◌+◌, ◌-◌, ◌*◌, ◌≤◌, ◌<◌}
+use Rattle.std.specs.declared.option.Option.TheVariants.{Some, None}
+use Prim.Native.Nat.{ℕ, ◌+◌, ◌-◌, ◌*◌, ◌≤◌}
 use mathlib.Core.Path.{◌≡◌, refl, sym, ap, ◌∙◌}
 use mathlib.Core.List.{List, [], ◌∷◌, ◌++◌, append-nil, append_assoc}
 use native.Mathlib.Omega.{arith}
@@ -8,11 +9,11 @@ use Rattle.writing.specs.Ascii.{blank, newline}
 use Rattle.writing.specs.Field.{field, line_end}
 use Rattle.writing.specs.Wrote.{Wrote}
 use Rattle.writing.proofs.Wrote.{none, then, recast}
+use Rattle.scanning.specs.Lines.{unless_zero}
 use Rattle.names.specs.Name.{name_end}
-use Rattle.name_list.specs.Names.{names_of}
-use Rattle.name_list.proofs.Lines.{names_here, names_done, names_none, names_later, line_ends}
-use Rattle.names.proofs.Written.{name_ahead}
 use Rattle.names.proofs.Parts.{parted}
+use Rattle.name_list.specs.Names.{names_of}
+use Rattle.name_list.proofs.Lines.{names_here, names_none, names_later}
 use Rattle.sheet_answer.specs.Answers.{name_lines}
 
 -- a task's line
@@ -39,33 +40,26 @@ begun s at l = record { done = []; wrote = none l at; left = refl; within = omeg
 
 module _ {s : List ℕ} {at : ℕ} {before now : List ℕ} {place task end : ℕ} (h : Naming s at before now place task end) where
   -- one more
-  pub onward : {l : List ℕ} {next k : ℕ} → place < length s → next ≡ name_end s newline place → (next ≡ 0 → ⊥)
+  pub onward : {l : List ℕ} {next k : ℕ} → Some next ≡ unless_zero (name_end s newline place)
       → Wrote now end (name_line task (take (next - 1 - place) (drop place s))) l k → k ≤ end + 27 + length (take (next - 1 - place) (drop place s))
       → Naming s at before l next (task + 1) k
-  onward {l} {next} {k} i e z w b =
+  onward {l} {next} {k} e w b =
       let part = take (next - 1 - place) (drop place s) in
-      let p = parted s newline place next (omega arith) e z in
-      let far : place + 2 ≤ next = omega (arith, e, name_ahead s newline place (λ q. z (e ∙ q))) in
+      let p = parted s newline place (omega arith) e in
       let n : name_line task part ++ name_lines (task + 1) (names_here s next) ≡ name_lines task (names_here s place) =
       ap (λ (x : List ℕ). name_line task x ++ name_lines (task + 1) (names_here s next)) p.is
-      ∙ ap (name_lines task) (sym (names_later s place i e z)) in
+      ∙ ap (name_lines task) (sym (names_later s place e)) in
       record {
         done = h.done ++ name_line task part;
         wrote = then h.wrote w;
         left = append_assoc h.done (name_line task part) (name_lines (task + 1) (names_here s next)) ∙ ap (λ (x : List ℕ). h.done ++ x) n ∙ h.left;
-        within = line_ends s place e z;
-        counted = omega (arith, h.counted, far);
-        short = omega (arith, h.short, b, p.ahead, far);
+        within = p.ends;
+        counted = omega (arith, h.counted, p.far);
+        short = omega (arith, h.short, b, p.ahead, p.far);
       }
 
   -- with no more names all are
-  all : names_here s place ≡ [] → Wrote before at (name_lines 1 (names_of s)) now end
-  all e = recast (sym (append-nil h.done) ∙ ap (λ (ns : List (List ℕ)). h.done ++ name_lines task ns) (sym e) ∙ h.left) h.wrote
-
-  -- at the end of the list
-  pub ended : length s ≤ place → Wrote before at (name_lines 1 (names_of s)) now end
-  ended k = all (names_done s place k)
-
-  -- and where a line is no name
-  pub stopped : {next : ℕ} → place < length s → next ≡ name_end s newline place → next ≡ 0 → Wrote before at (name_lines 1 (names_of s)) now end
-  stopped k e z = all (names_none s place k (sym e ∙ z))
+  pub all : None ≡ unless_zero (name_end s newline place) → Wrote before at (name_lines 1 (names_of s)) now end
+  all e =
+      let z = names_none s place e in
+      recast (sym (append-nil h.done) ∙ ap (λ (ns : List (List ℕ)). h.done ++ name_lines task ns) (sym z) ∙ h.left) h.wrote

@@ -1,4 +1,5 @@
 -- What the programs `sheet` and `table` write, in document 02's words.
+use Rattle.std.specs.declared.option.Option.TheVariants.{Some, None}
 use Prim.Native.Nat.{ℕ, ◌+◌, ◌≤◌}
 use mathlib.Core.Path.{◌≡◌, refl, sym, ap, ap₂, ◌∙◌}
 use mathlib.Core.List.{List, ◌++◌}
@@ -10,8 +11,7 @@ use Rattle.lists.specs.Lists.{zeros}
 use Rattle.units.specs.Refusals.{refusal, text_no}
 use Rattle.writing.specs.Field.{field, line_end}
 use Rattle.writing.specs.Refused.{refusal_text}
-use Rattle.scanning.specs.declared.number.Number.{Number}
-use Rattle.scanning.specs.declared.number.Number.TheVariants.{Value, NoNumber}
+use Rattle.scanning.specs.Number.{Number}
 use Rattle.table_text.specs.Text.{cores_line}
 use Rattle.table_text.specs.Grammar.{Small, cores_written, tasks_written, NoCores}
 use Rattle.table_text.proofs.Written.{cores_written_lem, cores_read}
@@ -38,9 +38,9 @@ use Rattle.sheet_answer.proofs.TableBack.{table_back, cores_back}
 no_cores : (s : List ℕ) → NoCores s → input_sheet s ≡ unread (refusal text_no 1)
 no_cores s h = sym (input_none s (go (cores_line s) refl))
   where
-    go : (n : Number) → cores_line s ≡ n → n ≡ NoNumber
-    go (Value m a) e = let r = cores_read s m a e in absurd (h m (drop a s) r.0 r.1)
-    go NoNumber e = refl
+    go : (n : Number) → cores_line s ≡ n → n ≡ None
+    go (Some (m, a)) e = let r = cores_read s m a e in absurd (h m (drop a s) r.0 r.1)
+    go None e = refl
 
 -- one that does, and the sheet after it
 with_cores : (m : ℕ) (s : List ℕ) → Small m → input_sheet (cores_written m ++ s) ≡ plan_sheet m s

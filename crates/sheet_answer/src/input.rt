@@ -3,7 +3,6 @@ ghost use Rattle.std.specs.Prelude.{◌≡◌};
 ghost use Rattle.sheet_answer.specs.Input.{input_sheet};
 
 use scanning::line::read_field;
-use scanning::number::Number;
 use sheet_reading::{Sheet, plan_sheet, unread};
 use units::refusal::Refusal;
 use writing::NEWLINE;
@@ -16,16 +15,10 @@ pub(crate) fn read_input(text: &[u8]) -> Sheet
     ensures { result ≡ input_sheet text.now }
 {
     match read_field(text, 0, BOUND, NEWLINE) {
-        Number::NoNumber => {
-            let refusal = Refusal {
-                no: Refusal::TEXT,
-                named: 1,
-            };
-            unread(refusal)
-        }
-        Number::Value(m, a) => {
-            let cores = m as u32;
-            plan_sheet(cores, &text[a..])
-        }
+        Some((cores, sheet)) => plan_sheet(cores as u32, &text[sheet..]),
+        None => unread(Refusal {
+            no: Refusal::TEXT,
+            named: 1,
+        }),
     }
 }

@@ -37,13 +37,10 @@ fn put_name_lines(buf: &mut [u8], at: usize, names: &[u8]) -> usize
     ensures upper_bound { result ≤ at + 14 * 832 }
 {
     let mut place = 0;
+    // How many lines there are is known at the last: no range counts the tasks.
     let mut task = 1;
     let mut end = at;
-    while place < names.len() {
-        let next = name_end(names, place, NEWLINE);
-        if next == 0 {
-            return end;
-        }
+    while let Some(next) = name_end(names, place, NEWLINE) {
         end = put_named(buf, end, task, &names[place..next - 1]);
         place = next;
         task += 1;
@@ -57,13 +54,10 @@ fn put_taken(out: &mut [u8], sheet: Sheet) -> usize
     ensures wrote { Wrote out.old 0 (named_listing sheet) out.new result }
     ensures upper_bound { result ≤ answer_limit }
 {
-    let plan = sheet.plan;
-    let listed = list_plan(plan, out);
+    let listed = list_plan(sheet.plan, out);
     let a = put_field(out, listed.length, b"tick ", sheet.tick as u64);
     let b = put_byte(out, a, NEWLINE);
-    let names = sheet.names;
-    let n = sheet.length;
-    put_name_lines(out, b, &names[0..n])
+    put_name_lines(out, b, &sheet.names[..sheet.length])
 }
 
 // The program's answer to an input, and its length.
@@ -73,9 +67,9 @@ pub fn answer_sheet(text: &[u8], out: &mut [u8]) -> usize
     ensures upper_bound { result ≤ answer_limit }
 {
     let sheet = read_input(text);
-    let refusal = sheet.refusal;
-    if refusal.no != 0 {
-        return put_refusal(out, 0, refusal);
+    if sheet.refusal.no == 0 {
+        put_taken(out, sheet)
+    } else {
+        put_refusal(out, 0, sheet.refusal)
     }
-    put_taken(out, sheet)
 }

@@ -1,13 +1,14 @@
 // What `table` writes: the table's text.
 ghost use Rattle.std.specs.Prelude.{◌≡◌, ◌++◌, ◌+◌, ◌≤◌, length};
+ghost use Rattle.units.specs.Limits.{tasks_limit};
 ghost use Rattle.writing.specs.Inner.{place_limit};
 ghost use Rattle.writing.specs.Wrote.{Wrote};
 ghost use Rattle.table_text.specs.Grammar.{cores_written, task_written, tasks_written};
 ghost use Rattle.sheet_answer.specs.Inner.{Few};
-ghost use Rattle.sheet_answer.specs.Answers.{table_in, table_text};
+ghost use Rattle.sheet_answer.specs.Answers.{numbers_of, table_in, table_text};
 
 use crate::input::read_input;
-use planning::Plan;
+use planning::{Line, Plan};
 use units::ticks::Duration;
 use writing::refused::put_refusal;
 use writing::{NEWLINE, put_byte, put_field, put_number};
@@ -27,21 +28,14 @@ fn put_task(buf: &mut [u8], at: usize, cost: Duration, period: Duration) -> usiz
 }
 
 // A line for each task.
-fn put_tasks(buf: &mut [u8], at: usize, plan: Plan) -> usize
-    requires { (at ≤ 21) × Few plan }
-    ensures wrote { Wrote buf.old at (tasks_written (table_in plan)) buf.new result }
+fn put_tasks(buf: &mut [u8], at: usize, lines: &[Line]) -> usize
+    requires { (at ≤ 21) × (length lines.now ≤ tasks_limit) }
+    ensures wrote { Wrote buf.old at (tasks_written (numbers_of lines.now)) buf.new result }
     ensures upper_bound { result ≤ 4096 }
 {
-    let lines = plan.lines;
-    let count = plan.count;
     let mut end = at;
-    let mut i: usize = 0;
-    while i < count {
-        let line = lines[i];
-        let cost = line.cost;
-        let period = line.period;
-        end = put_task(buf, end, cost, period);
-        i += 1;
+    for line in lines {
+        end = put_task(buf, end, line.cost, line.period);
     }
     end
 }
@@ -54,7 +48,7 @@ fn put_plan(buf: &mut [u8], plan: Plan) -> usize
 {
     let a = put_number(buf, 0, plan.cores as u64);
     let b = put_byte(buf, a, NEWLINE);
-    put_tasks(buf, b, plan)
+    put_tasks(buf, b, &plan.lines[..plan.count])
 }
 
 // The program's answer to an input, and its length.
@@ -63,10 +57,9 @@ pub fn answer_table(text: &[u8], out: &mut [u8]) -> usize
     ensures upper_bound { result ≤ 4096 }
 {
     let sheet = read_input(text);
-    let refusal = sheet.refusal;
-    if refusal.no != 0 {
-        return put_refusal(out, 0, refusal);
+    if sheet.refusal.no == 0 {
+        put_plan(out, sheet.plan)
+    } else {
+        put_refusal(out, 0, sheet.refusal)
     }
-    let plan = sheet.plan;
-    put_plan(out, plan)
 }

@@ -7,11 +7,10 @@ ghost use Rattle.sheet_text.specs.Job.{jobs_from};
 ghost use Rattle.sheet_text.specs.Sheet.{sheet_limit};
 ghost use Rattle.sheet_reading.specs.Read.{unread as unread_by, planned, plan_sheet};
 
-use planning::{Line, Plan, plan_of};
+use planning::{Line, Plan, Planned, plan_of};
 use sheet_text::job::put_names;
-use sheet_text::sheet::{Reading, read_sheet};
+use sheet_text::sheet::{SheetRead, read_sheet};
 use table_text::NUMBERS;
-use units::limits::TASKS;
 use units::refusal::Refusal;
 
 // Bytes of the names of a table, at most.
@@ -31,18 +30,12 @@ pub struct Sheet {
 pub fn unread(refusal: Refusal) -> Sheet
     ensures { result ≡ unread_by refusal }
 {
-    let plan = Plan {
-        cores: 0,
-        common: 0,
-        count: 0,
-        lines: [Line::EMPTY; TASKS],
-    };
     Sheet {
-        refusal: refusal,
+        refusal,
         tick: 0,
         names: [0; NAMES],
         length: 0,
-        plan: plan,
+        plan: Plan::EMPTY,
     }
 }
 
@@ -51,20 +44,18 @@ fn plan_jobs(cores: u32, sheet: &[u8], tick: u32, from: usize, table: &[u32]) ->
     requires { length sheet.now ≤ sheet_limit }
     ensures { result ≡ planned tick (jobs_from (length sheet.now) sheet.now from) (plan_of cores table.now) }
 {
-    let planned = plan_of(cores, table);
-    let refusal = planned.refusal;
+    let Planned { refusal, plan } = plan_of(cores, table);
     if refusal.no != 0 {
         return unread(refusal);
     }
     let mut names = [0u8; NAMES];
     let length = put_names(sheet, from, &mut names);
-    let plan = planned.plan;
     Sheet {
         refusal: Refusal::NONE,
-        tick: tick,
-        names: names,
-        length: length,
-        plan: plan,
+        tick,
+        names,
+        length,
+        plan,
     }
 }
 
@@ -74,16 +65,7 @@ pub fn plan_sheet(cores: u32, sheet: &[u8]) -> Sheet
 {
     let mut table = [0u32; NUMBERS];
     match read_sheet(sheet, &mut table) {
-        Reading::Refused(no) => {
-            let refusal = Refusal { no: no, named: 0 };
-            unread(refusal)
-        }
-        Reading::Read { tick, from, count } => plan_jobs(
-            cores,
-            sheet,
-            tick,
-            from,
-            &table[0..count],
-        ),
+        Err(no) => unread(Refusal { no, named: 0 }),
+        Ok(SheetRead { tick, from, count }) => plan_jobs(cores, sheet, tick, from, &table[..count]),
     }
 }

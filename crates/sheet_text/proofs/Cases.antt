@@ -1,4 +1,5 @@
 -- Each case of what a sheet says, with the facts that lead to it.
+use Rattle.std.specs.declared.option.Option.TheVariants.{Some, None}
 use Prim.Native.Nat.{ℕ, ◌≤◌, ◌<◌}
 use mathlib.Core.Path.{◌≡◌, refl}
 use mathlib.Core.Bool.{true, false}
@@ -8,10 +9,9 @@ use lib.Dec.{ltb, eqb}
 use lib.ListN.{length}
 use Rattle.lists.proofs.Tests.{by_cases}
 use Rattle.units.specs.Refusals.{sheet_no, name_no, tick_no}
-use Rattle.scanning.specs.declared.number.Number.{Number}
-use Rattle.scanning.specs.declared.number.Number.TheVariants.{Value, NoNumber}
-use Rattle.name_list.specs.Names.{twice}
+use Rattle.scanning.specs.Number.{Number}
 use Rattle.tick_length.specs.Ticks.{tick_in}
+use Rattle.name_list.specs.Names.{twice}
 use Rattle.sheet_text.specs.Job.{bad_job, names_in}
 use Rattle.sheet_text.specs.Sheet.{Said, says, refused_by, sheet_limit, tick_line, jobs_said, sheet_of}
 use Rattle.sheet_text.proofs.Jobs.{jobs_at}
@@ -19,7 +19,7 @@ use Rattle.sheet_text.proofs.Says.{jobs_long, jobs_bad, jobs_twice, jobs_said_le
 
 -- the first line is a tick length in range, and the jobs start at a place
 pub record Ticked (s : List ℕ) (tick at : ℕ) : Type 0 where
-  pub line : tick_line s ≡ Value tick at
+  pub line : tick_line s ≡ Some (tick, at)
   pub range : tick_in tick ≡ true
 
 -- after it at most 4,096 bytes are a line for each job
@@ -30,8 +30,8 @@ pub record Listed (s : List ℕ) (tick at : ℕ) : Type 0 where
 
 -- what a sheet says in each case
 pub data Case (s : List ℕ) : Said → Type 0 where
-  no_number : tick_line s ≡ NoNumber → Case s (refused_by tick_no)
-  out_of_range : {tick at : ℕ} → tick_line s ≡ Value tick at → tick_in tick ≡ false → Case s (refused_by tick_no)
+  no_number : tick_line s ≡ None → Case s (refused_by tick_no)
+  out_of_range : {tick at : ℕ} → tick_line s ≡ Some (tick, at) → tick_in tick ≡ false → Case s (refused_by tick_no)
   too_long : {tick at : ℕ} → Ticked s tick at → sheet_limit < length s → Case s (refused_by sheet_no)
   bad_line : {tick at : ℕ} → Ticked s tick at → (bad_job s at ≡ 0 → ⊥) → Case s (refused_by sheet_no)
   same_name : {tick at : ℕ} → Listed s tick at → twice (names_in (jobs_at s at)) ≡ true → Case s (refused_by name_no)
@@ -49,23 +49,23 @@ module _ (s : List ℕ) where
       listed k b =
           let h : Listed s tick at = record { ticked = t; short = k; fine = b } in
           by_cases (twice (names_in (jobs_at s at)))
-          (λ e. rw (jobs_twice s tick at k refl b refl e) (same_name h e))
-          (λ e. rw (jobs_said_lem s tick at k refl b refl e) (read h e))
+          (λ e. rw (jobs_twice s tick at k b refl e) (same_name h e))
+          (λ e. rw (jobs_said_lem s tick at k b refl e) (read h e))
 
       short : ltb sheet_limit (length s) ≡ false → Case s (jobs_said s tick at)
       short l =
           let k = ltb-false sheet_limit (length s) l in
           by_cases (eqb (bad_job s at) 0)
           (λ b. listed k (eqb-true (bad_job s at) 0 b))
-          (λ b. let z = eqb-false (bad_job s at) 0 b in rw (jobs_bad s tick at k refl z) (bad_line t z))
+          (λ b. let z = eqb-false (bad_job s at) 0 b in rw (jobs_bad s tick at k z) (bad_line t z))
 
   -- every sheet is one of them
   pub case_of : Case s (sheet_of s)
   case_of = go (tick_line s) refl
     where
       go : (n : Number) → tick_line s ≡ n → Case s (sheet_of s)
-      go NoNumber e = rw (sheet_none s e) (no_number e)
-      go (Value tick at) e =
+      go None e = rw (sheet_none s e) (no_number e)
+      go (Some (tick, at)) e =
           by_cases (tick_in tick)
           (λ h. rw (sheet_is s e h) (jobs_case (record { line = e; range = h })))
           (λ h. rw (sheet_out s e h) (out_of_range e h))

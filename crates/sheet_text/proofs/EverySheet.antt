@@ -1,4 +1,5 @@
 -- Every sheet has one of the forms; so what is read is what the sheet says by its form, and nothing else.
+use Rattle.std.specs.declared.option.Option.TheVariants.{Some, None}
 use Prim.Native.Nat.{ℕ}
 use mathlib.Core.Path.{◌≡◌, refl, sym, ap, ◌∙◌}
 use mathlib.Core.Bool.{true, false}
@@ -9,12 +10,11 @@ use borrow.Author.Tests.{lt-ltb, le-leb}
 use lib.ListN.{length, drop}
 use Rattle.lists.proofs.Tests.{by_cases, and_true}
 use Rattle.writing.proofs.Decimal.{either}
-use Rattle.scanning.proofs.Fields.{no_value}
-use Rattle.scanning.specs.declared.number.Number.{Number}
-use Rattle.scanning.specs.declared.number.Number.TheVariants.{Value, NoNumber}
+use Rattle.scanning.specs.Number.{Number}
+use Rattle.scanning.proofs.Fields.{no_value, same_number}
+use Rattle.tick_length.specs.Ticks.{tick_in, tick_limit}
 use Rattle.name_list.specs.Names.{twice}
 use Rattle.name_list.proofs.Repeated.{twice_exactly}
-use Rattle.tick_length.specs.Ticks.{tick_in, tick_limit}
 use Rattle.sheet_text.specs.Job.{Job, names_in}
 use Rattle.sheet_text.specs.Sheet.{Said, says, refused_by, tick_line, jobs_said, sheet_of}
 use Rattle.sheet_text.specs.Grammar.{TickIn, tick_written, Distinct, Starts, Jobs, NoJobs, Says, sheet, refused_19, refused_17, refused_18}
@@ -76,8 +76,8 @@ module _ (s : List ℕ) where
   reads_19 h = go (tick_line s) refl
     where
       go : (n : Number) → tick_line s ≡ n → sheet_of s ≡ refused_by 19
-      go NoNumber e = sheet_none s e
-      go (Value tick at) e =
+      go None e = sheet_none s e
+      go (Some (tick, at)) e =
           by_cases (tick_in tick) (λ k. absurd (h tick (drop at s) (starts_of (record { line = e; range = k })))) (λ k. sheet_out s e k)
 
   -- what follows it is too long, or not the lines of jobs
@@ -91,21 +91,21 @@ module _ (s : List ℕ) where
       go at e (inr none) =
           either 4096 (length s)
           (λ l. jobs_long s tick at l)
-          (λ l. jobs_bad s tick at l refl (λ z. let r = jobs_read s at z in none (jobs_at s at) r.0 (sym e ∙ r.1)))
+          (λ l. jobs_bad s tick at l (λ z. let r = jobs_read s at z in none (jobs_at s at) r.0 (sym e ∙ r.1)))
 
   -- what a sheet says by its form is what is read
   pub reads : {x : Said} → Says s x → sheet_of s ≡ x
   reads (sheet {tick} {js} h d) =
       let (at, l, e) = listed h in
       sheet_is s l.ticked.line l.ticked.range
-      ∙ jobs_said_lem s tick at l.short refl l.fine refl (ap (λ (z : List Job). twice (names_in z)) e ∙ not_twice js d)
+      ∙ jobs_said_lem s tick at l.short l.fine refl (ap (λ (z : List Job). twice (names_in z)) e ∙ not_twice js d)
       ∙ ap (says tick) e
   reads (refused_19 h) = reads_19 h
   reads (refused_17 h n) = reads_17 h n
   reads (refused_18 {tick} {js} h d) =
       let (at, l, e) = listed h in
       sheet_is s l.ticked.line l.ticked.range
-      ∙ jobs_twice s tick at l.short refl l.fine refl (ap (λ (z : List Job). twice (names_in z)) e ∙ (twice_exactly (names_in js)).1 d)
+      ∙ jobs_twice s tick at l.short l.fine refl (ap (λ (z : List Job). twice (names_in z)) e ∙ (twice_exactly (names_in js)).1 d)
 
   -- in each case the sheet says what is read
   case_says : {x : Said} → Case s x → Says s x
@@ -115,9 +115,7 @@ module _ (s : List ℕ) where
       other : (n : ℕ) (rest : List ℕ) → Starts s n rest → ⊥
       other n rest h =
           let (a, t, f) = after_tick_lem h in
-          let p : Value tick at ≡ Value n a = sym e ∙ t.line in
-          let z : tick ≡ n = cc in
-          not_both (sym t.range ∙ ap tick_in (sym z) ∙ k)
+          not_both (sym t.range ∙ ap tick_in (sym (same_number (sym e ∙ t.line)).0) ∙ k)
   case_says (too_long t h) = refused_17 (starts_of t) (inl h)
   case_says (bad_line {tick} {at} t h) = refused_17 (starts_of t) (inr (λ js g e. h (jobs_written_lem s at g e).1))
   case_says (same_name {tick} {at} l e) = refused_18 (jobs_of_lem l) ((twice_exactly (names_in (jobs_at s at))).0 e)

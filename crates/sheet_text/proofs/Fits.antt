@@ -1,4 +1,5 @@
 -- A sheet has at most 2,048 numbers, two to a line of six bytes or more: a lent table of that length holds them all.
+use Rattle.std.specs.declared.option.Option.TheVariants.{Some, None}
 use Prim.Native.Nat.{ℕ, zero, suc, ◌+◌, ◌-◌, ◌*◌, ◌≤◌, ◌<◌}
 use mathlib.Core.Path.{◌≡◌, refl, ap, ◌∙◌}
 use mathlib.Core.List.{List, map}
@@ -8,8 +9,7 @@ use lib.Dec.{ltb}
 use lib.ListN.{length, take, drop, length-map}
 use lib.Seq.{sets, sets-eq, take_at}
 use Rattle.lists.proofs.Tests.{by_cases}
-use Rattle.scanning.specs.declared.line.Pair.{Pair}
-use Rattle.scanning.specs.declared.line.Pair.TheVariants.{Two, NoPair}
+use Rattle.scanning.specs.Line.{Pair}
 use Rattle.names.specs.Name.{name_at}
 use Rattle.tick_length.specs.Inner.{held}
 use Rattle.sheet_text.specs.Job.{Job, job_at, ticks_in, then_jobs, jobs_from}
@@ -18,11 +18,11 @@ use Rattle.sheet_text.proofs.Jobs.{job_kept}
 use Rattle.sheet_text.proofs.Cases.{Case, no_number, out_of_range, too_long, bad_line, same_name, read, case_of}
 
 -- one line, of six bytes or more, before the later ones
-line_fits : (n tick at : ℕ) (later : ℕ → List Job) (name : List ℕ) (line : Pair) → at < n → ((c t next : ℕ) → line ≡ Two c t next → at + 6 ≤ next)
+line_fits : (n tick at : ℕ) (later : ℕ → List Job) (name : List ℕ) (line : Pair) → at < n → ((c t next : ℕ) → line ≡ Some (c, t, next) → at + 6 ≤ next)
     → ((next : ℕ) → 3 * length (ticks_in tick (later next)) ≤ n + 5 - next) → 3 * length (ticks_in tick (then_jobs later name line)) ≤ n + 5 - at
 unfolding then_jobs
-line_fits n tick at later name (Two c t next) h f g = omega (arith, f c t next refl, g next)
-line_fits n tick at later name NoPair h f g = omega arith
+line_fits n tick at later name (Some (c, t, next)) h f g = omega (arith, f c t next refl, g next)
+line_fits n tick at later name None h f g = omega arith
 
 -- the numbers of the jobs from a place on; the last line may end past the sheet by five bytes
 numbers_fit : (f : ℕ) (s : List ℕ) (tick at : ℕ) → 3 * length (ticks_in tick (jobs_from f s at)) ≤ length s + 5 - at

@@ -1,5 +1,7 @@
 -- What a sheet says, as the code meets it, and what the answer gives.
-use Prim.Native.Nat.{ℕ, zero, suc, ◌+◌, ◌-◌, ◌≤◌, ◌<◌}
+use Rattle.std.specs.declared.result.Result.TheVariants.{Ok, Err}
+use Rattle.std.specs.declared.option.Option.TheVariants.{Some, None}
+use Prim.Native.Nat.{ℕ, zero, suc, ◌+◌, ◌≤◌, ◌<◌}
 use mathlib.Core.Path.{◌≡◌, refl, ap, ap₂, ◌∙◌}
 use mathlib.Core.Bool.{Bool, true, false}
 use mathlib.Core.List.{List, [], ◌∷◌, ◌++◌, map}
@@ -14,17 +16,14 @@ use Rattle.writing.specs.Ascii.{newline}
 use Rattle.writing.specs.Decimal.{decimal_of}
 use Rattle.writing.specs.Wrote.{Wrote}
 use Rattle.writing.proofs.Wrote.{whole}
-use Rattle.scanning.specs.declared.number.Number.TheVariants.{Value, NoNumber}
+use Rattle.tick_length.specs.Ticks.{tick_in, tick_limit}
+use Rattle.tick_length.specs.Inner.{held}
 use Rattle.names.specs.Name.{Name}
 use Rattle.name_list.specs.Names.{names_text, twice, names_of}
 use Rattle.name_list.proofs.Lists.{All, names_back}
-use Rattle.tick_length.specs.Ticks.{tick_in, tick_limit}
-use Rattle.tick_length.specs.Inner.{held}
 use Rattle.sheet_text.specs.Job.{Job, none, also, comma, bad_job, names_in, ticks_in}
 use Rattle.sheet_text.specs.Grammar.{AllGood, jobs_written}
-use Rattle.sheet_text.specs.Sheet.{Said, says, refused_by, sheet_limit, tick_line, named, jobs_said, after_tick, sheet_of, table_of, end_of, answer_of}
-use Rattle.sheet_text.specs.declared.sheet.Reading.{Reading}
-use Rattle.sheet_text.specs.declared.sheet.Reading.TheVariants.{Read, Refused}
+use Rattle.sheet_text.specs.Sheet.{Said, says, refused_by, sheet_limit, tick_line, named, jobs_said, after_tick, sheet_of, table_of, end_of, answer_of, Reading, sheet_read}
 use Rattle.sheet_text.proofs.Jobs.{jobs_at}
 use Rattle.sheet_text.proofs.Written.{job_then, jobs_read}
 
@@ -49,9 +48,9 @@ names_shorter (j ∷ js) =
     omega (arith, names_shorter js, a, b, c, d)
 
 -- a text that was written from the start of a buffer that holds it is the part up to its end
-pub part_is : {a b xs : List ℕ} {k : ℕ} → Wrote a 0 xs b k → length xs ≤ length a → take (k - 0) b ≡ xs
+pub part_is : {a b xs : List ℕ} {k : ℕ} → Wrote a 0 xs b k → length xs ≤ length a → take k b ≡ xs
 part_is {a} {b} {xs} {k} w h =
-    let e : k - 0 ≡ length xs = omega (arith, w.end) in
+    let e : k ≡ length xs = omega (arith, w.end) in
     ap₂ (λ (n : ℕ) (l : List ℕ). take n l) e (whole w h) ∙ take_at xs (drop (length xs) a) (length xs) refl
 
 module _ (s : List ℕ) (from : ℕ) (short : length s ≤ sheet_limit) (fine : bad_job s from ≡ 0) where
@@ -61,7 +60,7 @@ module _ (s : List ℕ) (from : ℕ) (short : length s ≤ sheet_limit) (fine : 
 
   -- what is told of them as a list is told of the jobs
   pub told : {a b : List ℕ} {k : ℕ} {r : Bool} → Wrote a 0 (names_text (names_in (jobs_at s from))) b k → sheet_limit ≤ length a
-      → r ≡ twice (names_of (take (k - 0) b)) → r ≡ twice (names_in (jobs_at s from))
+      → r ≡ twice (names_of (take k b)) → r ≡ twice (names_in (jobs_at s from))
   told {a} {b} {k} w h e =
       e ∙ ap (λ (l : List ℕ). twice (names_of l)) (part_is w (omega (arith, names_fit)))
       ∙ ap twice (names_back (names_in (jobs_at s from)) (good_names (jobs_read s from fine).0)).1
@@ -71,13 +70,13 @@ abbrev Gives : ℕ → Said → Reading → List ℕ → List ℕ → Type 0
 Gives from w r before after = (r ≡ answer_of from w) × (after ≡ sets before 0 (map held (table_of w)))
 
 -- a refused sheet changes no number
-pub gives_no : {w : Said} (from n : ℕ) (l : List ℕ) → w ≡ refused_by n → Gives from w (Refused n) l l
+pub gives_no : {w : Said} (from n : ℕ) (l : List ℕ) → w ≡ refused_by n → Gives from w (Err n) l l
 unfolding answer_of table_of
 gives_no from n l e = rw e (refl, refl)
 
 -- another gives its numbers
 pub gives_jobs : {w : Said} (from tick n : ℕ) (js : List Job) (before after : List ℕ) → w ≡ says tick js → n ≡ length (ticks_in tick js)
-    → after ≡ sets before 0 (map held (ticks_in tick js)) → Gives from w (Read tick from n) before after
+    → after ≡ sets before 0 (map held (ticks_in tick js)) → Gives from w (Ok (sheet_read tick from n)) before after
 unfolding answer_of table_of
 gives_jobs from tick n js before after e f g = rw (e, f) (refl, g)
 
@@ -95,30 +94,30 @@ module _ (s : List ℕ) (tick at : ℕ) where
   unfolding jobs_said
   jobs_long h = rw (lt-ltb sheet_limit (length s) h)
 
-  module _ (short : length s ≤ sheet_limit) {line : ℕ} (e : line ≡ bad_job s at) where
+  module _ (short : length s ≤ sheet_limit) where
     -- 17: a line that cannot be read
-    pub jobs_bad : (line ≡ 0 → ⊥) → jobs_said s tick at ≡ refused_by sheet_no
+    pub jobs_bad : (bad_job s at ≡ 0 → ⊥) → jobs_said s tick at ≡ refused_by sheet_no
     unfolding jobs_said
-    jobs_bad h = rw (le-ltb sheet_limit (length s) short, ← e, ne_eqb line 0 h)
+    jobs_bad h = rw (le-ltb sheet_limit (length s) short, ne_eqb (bad_job s at) 0 h)
 
-    module _ (fine : line ≡ 0) {r : Bool} (f : r ≡ twice (names_in (jobs_at s at))) where
+    module _ (fine : bad_job s at ≡ 0) {r : Bool} (f : r ≡ twice (names_in (jobs_at s at))) where
       -- 18: the same name twice
       pub jobs_twice : r ≡ true → jobs_said s tick at ≡ refused_by name_no
       unfolding jobs_said named
-      jobs_twice h = rw (le-ltb sheet_limit (length s) short, ← e, fine, ← f, h)
+      jobs_twice h = rw (le-ltb sheet_limit (length s) short, fine, ← f, h)
 
       -- the jobs
       pub jobs_said_lem : r ≡ false → jobs_said s tick at ≡ says tick (jobs_at s at)
       unfolding jobs_said named
-      jobs_said_lem h = rw (le-ltb sheet_limit (length s) short, ← e, fine, ← f, h)
+      jobs_said_lem h = rw (le-ltb sheet_limit (length s) short, fine, ← f, h)
 
 module _ (s : List ℕ) where
   -- 19: the first line is no number
-  pub sheet_none : tick_line s ≡ NoNumber → sheet_of s ≡ refused_by tick_no
+  pub sheet_none : tick_line s ≡ None → sheet_of s ≡ refused_by tick_no
   unfolding sheet_of after_tick
   sheet_none e = rw e refl
 
-  module _ {tick at : ℕ} (e : tick_line s ≡ Value tick at) where
+  module _ {tick at : ℕ} (e : tick_line s ≡ Some (tick, at)) where
     -- 19: one out of range
     pub sheet_out : tick_in tick ≡ false → sheet_of s ≡ refused_by tick_no
     unfolding sheet_of after_tick

@@ -1,21 +1,20 @@
 -- A line that is written at a place is read there, and one that is read is written there.
+use Rattle.std.specs.declared.option.Option.TheVariants.{Some, None}
 use Prim.Native.Nat.{ℕ, zero, suc, ◌+◌, ◌≤◌, ◌<◌}
 use mathlib.Core.Path.{◌≡◌, refl, sym, ap, ap₂, ◌∙◌}
 use mathlib.Core.Logic.{inl}
 use mathlib.Core.List.{List, [], ◌∷◌, ◌++◌, append_assoc}
 use native.Mathlib.Omega.{arith}
+use borrow.Author.Tests.{ltb-true, ltb-false}
 use lib.ListN.{length, drop, length-append, length-drop, drop_of_length-le}
 use lib.Dec.{ltb}
-use borrow.Author.Tests.{ltb-true, ltb-false}
 use Rattle.lists.proofs.Tests.{by_cases}
 use Rattle.writing.specs.Ascii.{newline}
 use Rattle.writing.specs.Decimal.{decimal_of}
 use Rattle.scanning.specs.Lines.{pair_end}
-use Rattle.scanning.proofs.Sought.{Sought, first, later, here, ended}
+use Rattle.scanning.specs.Line.{Pair}
+use Rattle.scanning.proofs.Sought.{Sought, first, later, here, ended, other_told}
 use Rattle.scanning.proofs.WrittenLines.{field_written, field_read, pair_by_written, pair_by_read}
-use Rattle.scanning.specs.declared.number.Number.TheVariants.{Value}
-use Rattle.scanning.specs.declared.line.Pair.{Pair}
-use Rattle.scanning.specs.declared.line.Pair.TheVariants.{Two, NoPair}
 use Rattle.names.specs.Name.{name_at, name_end}
 use Rattle.names.proofs.Written.{name_written, name_read}
 use Rattle.sheet_text.specs.Job.{Job, none, also, job, comma, nanos_bound, job_at, job_end, bad_job}
@@ -43,27 +42,27 @@ job_long j rest =
 
 module _ (s : List ℕ) where
   -- the first line
-  pub tick_written_lem : (tick : ℕ) (rest : List ℕ) → tick < nanos_bound → s ≡ tick_written tick ++ rest → (a : ℕ) × (tick_line s ≡ Value tick a)
+  pub tick_written_lem : (tick : ℕ) (rest : List ℕ) → tick < nanos_bound → s ≡ tick_written tick ++ rest → (a : ℕ) × (tick_line s ≡ Some (tick, a))
       × (drop a s ≡ rest)
   tick_written_lem tick rest h e =
       let f = field_written nanos_bound s newline 0 tick rest h (inl (omega arith)) (e ∙ tick_then tick rest) in
       (0 + length (decimal_of tick) + 1, f.0, f.1)
 
-  pub tick_read : (tick a : ℕ) → tick_line s ≡ Value tick a → s ≡ tick_written tick ++ drop a s
+  pub tick_read : (tick a : ℕ) → tick_line s ≡ Some (tick, a) → s ≡ tick_written tick ++ drop a s
   tick_read tick a e =
       let f = field_read nanos_bound s newline 0 tick a (omega arith) (omega arith) e in
       f.1 ∙ sym (tick_then tick (drop a s))
 
   -- a job's line
   pub job_written_lem : (at : ℕ) (j : Job) (rest : List ℕ) → Good j → drop at s ≡ job_written j ++ rest
-      → (a : ℕ) × (name_at s at ≡ j.name) × (job_at s at ≡ Two j.cost j.period a) × (drop a s ≡ rest)
+      → (a : ℕ) × (name_at s at ≡ j.name) × (job_at s at ≡ Some (j.cost, j.period, a)) × (drop a s ≡ rest)
   job_written_lem at j rest h e =
       let later = decimal_of j.cost ++ comma ∷ (decimal_of j.period ++ newline ∷ rest) in
       let n = name_written s comma at j.name later h.name (inl (omega arith)) (e ∙ job_then j rest) in
       let p = pair_by_written nanos_bound comma s (at + length j.name + 1) j.cost j.period rest (inl (omega arith)) h.cost h.period n.2 in
-      (p.0, n.0, sym (job_is s at (sym n.1) (λ z. omega arith)) ∙ p.1, p.2)
+      (p.0, n.0, sym (job_is s at (sym (other_told (λ z. omega (arith, z, n.1)) ∙ ap Some n.1))) ∙ p.1, p.2)
 
-  pub job_read : (at c t a : ℕ) → job_at s at ≡ Two c t a
+  pub job_read : (at c t a : ℕ) → job_at s at ≡ Some (c, t, a)
       → Good (job (name_at s at) c t) × (drop at s ≡ job_written (job (name_at s at) c t) ++ drop a s)
   job_read at c t a e =
       let k = job_kept s at c t a e in
@@ -74,11 +73,11 @@ module _ (s : List ℕ) where
       )
 
   -- the place after a job's line
-  end_is : (at : ℕ) {c t a : ℕ} → job_at s at ≡ Two c t a → job_end s at ≡ a
+  end_is : (at : ℕ) {c t a : ℕ} → job_at s at ≡ Some (c, t, a) → job_end s at ≡ a
   unfolding pair_end
   end_is at e = ap pair_end e
 
-  end_none : (at : ℕ) → job_at s at ≡ NoPair → job_end s at ≡ 0
+  end_none : (at : ℕ) → job_at s at ≡ None → job_end s at ≡ 0
   unfolding pair_end
   end_none at e = ap pair_end e
 
@@ -88,9 +87,14 @@ module _ (s : List ℕ) where
     At line at = Sought (job_end s) (length s) 2 from line at
 
     -- it passes a job's line
-    passed : (line at c t a : ℕ) → At line at → at < length s → job_at s at ≡ Two c t a → At (line + 1) a
-    passed line at c t a q i e =
-        later (job_end s) (length s) 2 from line at q i (end_is at e) (omega (arith, (job_kept s at c t a e).further))
+    passed : (line at : ℕ) {c t a : ℕ} → At line at → job_at s at ≡ Some (c, t, a) → At (line + 1) a
+    passed line at {c} {t} {a} q e =
+        let k = job_kept s at c t a e in
+        later (job_end s) (length s) 2 from line at q k.inside (end_is at e) (omega (arith, k.further))
+
+    -- it ends where no job is read
+    stopped : (line at : ℕ) → At line at → job_at s at ≡ None → at < length s → bad_job s from ≡ line
+    stopped line at q e i = here (job_end s) (length s) 2 from line at q i (end_none at e)
 
     -- the lines of jobs that are written are read as those
     lines_written : {js : List Job} → AllGood js → (line at : ℕ) → At line at → drop at s ≡ jobs_written js → (jobs_at s at ≡ js) × (bad_job s from ≡ 0)
@@ -98,10 +102,9 @@ module _ (s : List ℕ) where
         let k : length s ≤ at = omega (arith, length-drop at s, ap length e) in
         (jobs_end s at k, ended (job_end s) (length s) 2 from line at q k)
     lines_written (also {j} {js} h hs) line at q e =
-        let i : at < length s = omega (arith, length-drop at s, ap length e, job_long j (jobs_written js)) in
         let w = job_written_lem at j (jobs_written js) h e in
-        let r = lines_written hs (line + 1) w.0 (passed line at j.cost j.period w.0 q i w.2) w.3 in
-        (jobs_next s at i w.2 ∙ ap₂ (λ (n : List ℕ) (l : List Job). job n j.cost j.period ∷ l) w.1 r.0, r.1)
+        let r = lines_written hs (line + 1) w.0 (passed line at q w.2) w.3 in
+        (jobs_next s at w.2 ∙ ap₂ (λ (n : List ℕ) (l : List Job). job n j.cost j.period ∷ l) w.1 r.0, r.1)
 
     module _ (fine : bad_job s from ≡ 0) where
       -- the jobs that are read from a place on are written there
@@ -115,11 +118,11 @@ module _ (s : List ℕ) where
       -- and a line's, if those of the later lines are
       read_line : (line at : ℕ) → 2 ≤ line → At line at → at < length s → ((a : ℕ) → at + 6 ≤ a → At (line + 1) a → Read a)
           → (p : Pair) → job_at s at ≡ p → Read at
-      read_line line at k q i f NoPair e = absurd (omega (arith, sym (here (job_end s) (length s) 2 from line at q i (end_none at e)) ∙ fine))
-      read_line line at k q i f (Two c t a) e =
+      read_line line at k q i f None e = absurd (omega (arith, sym (stopped line at q e i) ∙ fine))
+      read_line line at k q i f (Some (c, t, a)) e =
           let w = job_read at c t a e in
-          let r = f a (job_kept s at c t a e).further (passed line at c t a q i e) in
-          rw (jobs_next s at i e) (also w.0 r.0, w.1 ∙ ap (λ (l : List ℕ). job_written (job (name_at s at) c t) ++ l) r.1)
+          let r = f a (job_kept s at c t a e).further (passed line at q e) in
+          rw (jobs_next s at e) (also w.0 r.0, w.1 ∙ ap (λ (l : List ℕ). job_written (job (name_at s at) c t) ++ l) r.1)
 
       lines_read : (f line at : ℕ) → length s ≤ at + f → 2 ≤ line → At line at → Read at
       lines_read zero line at h k q = read_end at (omega arith)

@@ -1,11 +1,9 @@
 -- A job of the office's sheet, document 02, R-1: a line `name,cost,period`, cost and period in nanoseconds.
-use Rattle.std.specs.Prelude.{ℕ, zero, suc, cond, List, [], ◌∷◌, ◌++◌, map, ltb, eqb, length}
+use Rattle.std.specs.Prelude.{Some, None, ℕ, zero, suc, cond, List, [], ◌∷◌, ◌++◌, map, ltb, eqb, length}
 use Rattle.writing.specs.Ascii.{newline}
 use Rattle.names.specs.Name.{name_at, name_end}
-use Rattle.scanning.specs.Line.{pair_by}
+use Rattle.scanning.specs.Line.{Pair, pair_by}
 use Rattle.scanning.specs.Lines.{pair_end, unreadable_from}
-use Rattle.scanning.specs.declared.line.Pair.{Pair}
-use Rattle.scanning.specs.declared.line.Pair.TheVariants.{Two, NoPair}
 use Rattle.tick_length.specs.Ticks.{cost_ticks, period_ticks}
 
 -- a job: its name, its cost and its period in nanoseconds
@@ -46,7 +44,7 @@ name_line s at = cond (eqb (name_end s comma at) 0) [] (name_at s at ++ newline 
 
 -- cost and period after a name that ends at a place, 0 for no name
 unfoldable pub after_name : List ℕ → ℕ → Pair
-after_name s a = cond (eqb a 0) NoPair (pair_by nanos_bound comma s a)
+after_name s a = cond (eqb a 0) None (pair_by nanos_bound comma s a)
 
 -- cost and period of the job at a place, with the place after its line
 unfoldable pub job_at : List ℕ → ℕ → Pair
@@ -62,8 +60,8 @@ bad_job s at = unreadable_from (job_end s) (length s) (length s) 2 at
 
 -- a job of this name, then the later lines' jobs
 unfoldable pub then_jobs : (ℕ → List Job) → List ℕ → Pair → List Job
-then_jobs later n (Two c t next) = job n c t ∷ later next
-then_jobs later n NoPair = []
+then_jobs later n (Some (c, t, next)) = job n c t ∷ later next
+then_jobs later n None = []
 
 -- the jobs from a place on; f is no less than the lines' number
 unfoldable pub jobs_from : ℕ → List ℕ → ℕ → List Job

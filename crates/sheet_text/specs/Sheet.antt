@@ -1,15 +1,21 @@
 -- What a sheet says, document 02, R-1: a tick length and jobs; or it is refused by 19, then 17, then 18.
-use Rattle.std.specs.Prelude.{ℕ, cond, List, [], ltb, eqb, length}
+use Rattle.std.specs.Prelude.{Result, Ok, Err, Some, None, ℕ, cond, List, [], ltb, eqb, length}
 use Rattle.units.specs.Refusals.{sheet_no, name_no, tick_no}
 use Rattle.writing.specs.Ascii.{newline}
 use Rattle.scanning.specs.Line.{field_at}
-use Rattle.scanning.specs.declared.number.Number.{Number}
-use Rattle.scanning.specs.declared.number.Number.TheVariants.{Value, NoNumber}
+use Rattle.scanning.specs.Number.{Number}
 use Rattle.name_list.specs.Names.{twice}
 use Rattle.tick_length.specs.Ticks.{tick_in}
+use Rattle.sheet_text.specs.declared.sheet.SheetRead.{SheetRead}
 use Rattle.sheet_text.specs.Job.{Job, nanos_bound, names_in, ticks_in, bad_job, jobs_from}
-use Rattle.sheet_text.specs.declared.sheet.Reading.{Reading}
-use Rattle.sheet_text.specs.declared.sheet.Reading.TheVariants.{Read, Refused}
+
+-- what is read of a sheet: its tick length, where the jobs start and how many numbers their table has; or the refusal's number
+abbrev pub Reading : Type 0
+Reading = Result SheetRead ℕ
+
+-- a sheet that is read
+abbrev pub sheet_read : ℕ → ℕ → ℕ → SheetRead
+sheet_read tick from n = record { tick = tick; from = from; count = n }
 
 -- what a sheet says: a tick length and jobs, or nothing, and then it is refused by a number
 pub data Said : Type 0 where
@@ -37,8 +43,8 @@ jobs_said s tick at =
 
 -- 19: the first line is no number, or one out of range
 unfoldable pub after_tick : List ℕ → Number → Said
-after_tick s (Value tick at) = cond (tick_in tick) (jobs_said s tick at) (refused_by tick_no)
-after_tick s NoNumber = refused_by tick_no
+after_tick s (Some (tick, at)) = cond (tick_in tick) (jobs_said s tick at) (refused_by tick_no)
+after_tick s None = refused_by tick_no
 
 -- the whole sheet: 19, then 17, then 18
 unfoldable pub sheet_of : List ℕ → Said
@@ -56,10 +62,10 @@ table_of (refused_by n) = []
 
 -- the place after a line that was read
 unfoldable pub end_of : Number → ℕ
-end_of (Value v at) = at
-end_of NoNumber = 0
+end_of (Some (v, at)) = at
+end_of None = 0
 
 -- the answer: the tick length, where the jobs start and how many numbers their table has; or the refusal's number
 unfoldable pub answer_of : ℕ → Said → Reading
-answer_of from (says tick js) = Read tick from (length (ticks_in tick js))
-answer_of from (refused_by n) = Refused n
+answer_of from (says tick js) = Ok (sheet_read tick from (length (ticks_in tick js)))
+answer_of from (refused_by n) = Err n

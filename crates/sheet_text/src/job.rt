@@ -3,6 +3,7 @@ ghost use Rattle.std.specs.Prelude.{◌≡◌, map, ◌+◌, ◌≤◌, ◌<◌,
 ghost use Rattle.std.proofs.lemmas.List.Edits.{sets};
 ghost use Rattle.name_list.specs.Names.{names_text};
 ghost use Rattle.tick_length.specs.Inner.{held};
+ghost use Rattle.scanning.specs.Lines.{unless_zero};
 ghost use Rattle.writing.specs.Inner.{place_limit};
 ghost use Rattle.writing.specs.Wrote.{Wrote};
 ghost use Rattle.sheet_text.specs.Job.{job_at, name_line, bad_job, jobs_from, names_in, ticks_in};
@@ -10,7 +11,8 @@ ghost use Rattle.sheet_text.specs.Sheet.{sheet_limit};
 
 use lent_numbers::store;
 use names::name::name_end;
-use scanning::line::{Pair, read_pair_by};
+use scanning::line::read_pair_by;
+use scanning::lines;
 use tick_length::{cost_ticks, period_ticks};
 use writing::{NEWLINE, put_byte, put_text};
 
@@ -20,34 +22,18 @@ const COMMA: u8 = 44;
 pub(crate) const BOUND: u64 = 1_000_000_000_000_000;
 
 // Cost and period of the job at a place, and the place after its line.
-fn read_job(sheet: &[u8], at: usize) -> Pair
+fn read_job(sheet: &[u8], at: usize) -> Option<(u64, u64, usize)>
     ensures { result ≡ job_at sheet.now at }
 {
-    let next = name_end(sheet, at, COMMA);
-    if next == 0 {
-        return Pair::NoPair;
-    }
+    let next = name_end(sheet, at, COMMA)?;
     read_pair_by(sheet, next, BOUND, COMMA)
 }
 
-// The first unreadable line of jobs that start with the sheet's second line, 0 if there is none.
-pub(crate) fn first_unreadable(sheet: &[u8], from: usize) -> usize
-    ensures { result ≡ bad_job sheet.now from }
+// The first unreadable line of jobs that start with the sheet's second line, if there is one.
+pub(crate) fn first_unreadable(sheet: &[u8], from: usize) -> Option<usize>
+    ensures { result ≡ unless_zero (bad_job sheet.now from) }
 {
-    let mut at = from;
-    let mut line = 2;
-    while at < sheet.len() {
-        match read_job(sheet, at) {
-            Pair::NoPair => {
-                return line;
-            }
-            Pair::Two(c, t, next) => {
-                at = next;
-                line += 1;
-            }
-        }
-    }
-    0
+    lines::first_unreadable(from, sheet.len(), 2, |at| Some(read_job(sheet, at)?.2))
 }
 
 // Stores the ticks of the jobs from a place on, as far as the table reaches, and answers how many numbers they are.
@@ -58,21 +44,15 @@ pub(crate) fn store_ticks(sheet: &[u8], from: usize, tick: u64, table: &mut [u32
         ≡ sets table.old 0 (map held (ticks_in tick (jobs_from (length sheet.now) sheet.now from))) }
 {
     let mut at = from;
+    // It counts on past the table's end, since the answer is how many numbers there are: no `for` over the table does.
     let mut i = 0;
-    while at < sheet.len() {
-        match read_job(sheet, at) {
-            Pair::NoPair => {
-                return 2 * i;
-            }
-            Pair::Two(c, t, next) => {
-                let cost = cost_ticks(c, tick);
-                let period = period_ticks(t, tick);
-                store(table, 2 * i, cost);
-                store(table, 2 * i + 1, period);
-                at = next;
-                i += 1;
-            }
-        }
+    while let Some((c, t, next)) = read_job(sheet, at) {
+        let cost = cost_ticks(c, tick);
+        let period = period_ticks(t, tick);
+        store(table, 2 * i, cost);
+        store(table, 2 * i + 1, period);
+        at = next;
+        i += 1;
     }
     2 * i
 }
@@ -82,10 +62,9 @@ fn put_name(sheet: &[u8], at: usize, buf: &mut [u8], end: usize) -> usize
     requires { end + 13 ≤ place_limit }
     ensures { Wrote buf.old end (name_line sheet.now at) buf.new result }
 {
-    let next = name_end(sheet, at, COMMA);
-    if next == 0 {
+    let Some(next) = name_end(sheet, at, COMMA) else {
         return end;
-    }
+    };
     let stored = put_text(buf, end, &sheet[at..next - 1]);
     put_byte(buf, stored, NEWLINE)
 }
@@ -97,16 +76,9 @@ pub fn put_names(sheet: &[u8], from: usize, buf: &mut [u8]) -> usize
 {
     let mut at = from;
     let mut end = 0;
-    while at < sheet.len() {
-        match read_job(sheet, at) {
-            Pair::NoPair => {
-                return end;
-            }
-            Pair::Two(c, t, next) => {
-                end = put_name(sheet, at, buf, end);
-                at = next;
-            }
-        }
+    while let Some((_, _, next)) = read_job(sheet, at) {
+        end = put_name(sheet, at, buf, end);
+        at = next;
     }
     end
 }

@@ -10,7 +10,6 @@ ghost use Rattle.sheet_text.specs.Sheet.{sheet_limit, tick_line, jobs_said, shee
 use crate::job::{BOUND, first_unreadable, put_names, store_ticks};
 use name_list::name_twice;
 use scanning::line::read_field;
-use scanning::number::Number;
 use tick_length::tick_in;
 use units::refusal::Refusal;
 use writing::NEWLINE;
@@ -18,15 +17,12 @@ use writing::NEWLINE;
 // Bytes of a sheet, at most.
 pub const SHEET: usize = 4_096;
 
-// The tick length, where the jobs start and how many numbers their table has; or the refusal's number.
+// The tick length, where the jobs start and how many numbers their table has.
 #[derive(Clone, Copy)]
-pub enum Reading {
-    Read {
-        tick: u32,
-        from: usize,
-        count: usize,
-    },
-    Refused(u32),
+pub struct SheetRead {
+    pub tick: u32,
+    pub from: usize,
+    pub count: usize,
 }
 
 // Whether jobs have the same name twice.
@@ -36,45 +32,40 @@ fn named_twice(sheet: &[u8], from: usize) -> bool
 {
     let mut names = [0u8; SHEET];
     let n = put_names(sheet, from, &mut names);
-    name_twice(&names[0..n])
+    name_twice(&names[..n])
 }
 
 // The jobs from a place on, stored only if each of their lines can be read and no name stands there twice.
-fn read_jobs(sheet: &[u8], tick: u64, from: usize, table: &mut [u32]) -> Reading
+fn read_jobs(sheet: &[u8], tick: u64, from: usize, table: &mut [u32]) -> Result<SheetRead, u32>
     requires { tick_in tick ≡ true }
     ensures value { result ≡ answer_of from (jobs_said sheet.now tick from) }
     ensures table_after { table.new ≡ sets table.old 0 (map held (table_of (jobs_said sheet.now tick from))) }
 {
-    if SHEET < sheet.len() {
-        return Reading::Refused(Refusal::SHEET);
-    }
-    let line = first_unreadable(sheet, from);
-    if line != 0 {
-        return Reading::Refused(Refusal::SHEET);
+    if SHEET < sheet.len() || first_unreadable(sheet, from).is_some() {
+        return Err(Refusal::SHEET);
     }
     if named_twice(sheet, from) {
-        return Reading::Refused(Refusal::NAME);
+        return Err(Refusal::NAME);
     }
     let count = store_ticks(sheet, from, tick, table);
-    Reading::Read {
+    Ok(SheetRead {
         tick: tick as u32,
-        from: from,
-        count: count,
-    }
+        from,
+        count,
+    })
 }
 
-// What a sheet says. Its ticks are stored in the table as far as that reaches; a refused sheet changes none.
-pub fn read_sheet(sheet: &[u8], table: &mut [u32]) -> Reading
+// What a sheet says, or the refusal's number. Its ticks are stored in the table as far as that reaches; a refused sheet changes none.
+pub fn read_sheet(sheet: &[u8], table: &mut [u32]) -> Result<SheetRead, u32>
     ensures value { result ≡ answer_of (end_of (tick_line sheet.now)) (sheet_of sheet.now) }
     ensures table_after { table.new ≡ sets table.old 0 (map held (table_of (sheet_of sheet.now))) }
 {
-    match read_field(sheet, 0, BOUND, NEWLINE) {
-        Number::NoNumber => Reading::Refused(Refusal::TICK),
-        Number::Value(tick, from) => {
-            if !tick_in(tick) {
-                return Reading::Refused(Refusal::TICK);
-            }
-            read_jobs(sheet, tick, from, table)
-        }
+    let Some((tick, from)) = read_field(sheet, 0, BOUND, NEWLINE) else {
+        return Err(Refusal::TICK);
+    };
+    if tick_in(tick) {
+        read_jobs(sheet, tick, from, table)
+    } else {
+        Err(Refusal::TICK)
     }
 }

@@ -1,30 +1,30 @@
 -- Every table has one of the answers; so what is answered is what the words of document 02 give, and nothing else.
+use Rattle.std.specs.declared.option.Option.TheVariants.{Some, None}
 use Prim.Native.Nat.{ℕ, ◌/◌, ◌≤◌, ◌<◌}
 use mathlib.Core.Path.{◌≡◌, refl, sym, ap, ◌∙◌}
 use mathlib.Core.Bool.{true, false}
 use mathlib.Core.Logic.{◌↔◌}
 use mathlib.Core.List.{List, ◌++◌}
 use native.Mathlib.Omega.{arith}
+use borrow.Author.Tests.{lt-ltb, le-leb, lt-leb, eq-eqb, ne_eqb, leb-true, leb-false, eqb-true, eqb-false}
 use lib.Dec.{leb, eqb}
 use lib.ListN.{length, drop}
-use borrow.Author.Tests.{lt-ltb, le-leb, lt-leb, eq-eqb, ne_eqb, leb-true, leb-false, eqb-true, eqb-false}
 use Rattle.lists.specs.Lists.{bit}
 use Rattle.lists.proofs.Tests.{by_cases, and_true}
 use Rattle.units.specs.declared.refusal.Refusal.{Refusal}
 use Rattle.units.specs.Refusals.{refusal}
 use Rattle.admission.specs.Admission.{plan_refusal}
 use Rattle.admission.proofs.Exactly.{answers}
+use Rattle.tick_length.specs.Ticks.{tick_in, tick_limit}
 use Rattle.name_list.specs.Names.{twice, names_of, bad_name, names_said}
-use Rattle.name_list.specs.declared.Names.TheVariants.{Count, Unreadable}
 use Rattle.name_list.proofs.Lists.{names_back, names_only}
 use Rattle.name_list.proofs.Repeated.{twice_exactly}
-use Rattle.tick_length.specs.Ticks.{tick_in, tick_limit}
 use Rattle.sheet_text.specs.Grammar.{TickIn, Distinct, sheet_written}
 use Rattle.sheet_text.proofs.Says.{tick_range}
-use Rattle.sheet_writing.specs.Given.{Named, Fine, Given, refused_19, refused_17, refused_18, planning, refused_14, written}
 use Rattle.sheet_writing.specs.Write.{jobs_with, write_refusal, sheet_for, unwritten, written_whole, fitted, fitted_after, written_of, written_after}
 use Rattle.sheet_writing.specs.declared.Written.{Written}
 use Rattle.sheet_writing.proofs.Refused as Refused
+use Rattle.sheet_writing.specs.Given.{Named, Fine, Given, refused_19, refused_17, refused_18, planning, refused_14, written}
 
 -- a tick length in range passes its test
 in_range : (tick : ℕ) → TickIn tick → tick_in tick ≡ true
@@ -48,14 +48,21 @@ distinct ns e i j h k p = not_both (sym ((twice_exactly ns).1 (i, j, h, k, p)) �
 
 module _ (names : List ℕ) where
   -- lines that are names are counted
-  counted : bad_name names ≡ 0 → names_said names ≡ Count (length (names_of names))
+  counted : bad_name names ≡ 0 → names_said names ≡ Some (length (names_of names))
   unfolding names_said
   counted e = rw (eq-eqb (bad_name names) 0 e) refl
 
   -- a line that is none is told
-  uncounted : (bad_name names ≡ 0 → ⊥) → names_said names ≡ Unreadable
+  uncounted : (bad_name names ≡ 0 → ⊥) → names_said names ≡ None
   unfolding names_said
   uncounted h = rw (ne_eqb (bad_name names) 0 h) refl
+
+-- so many names are no others
+same_count : {n k : ℕ} → Some n ≡ Some k → n ≡ k
+same_count e = cc
+
+none_some : {n : ℕ} → None ≡ Some n → ⊥
+none_some e = cc
 
 module _ {xs names : List ℕ} {ns : List (List ℕ)} (h : Named xs names ns) where
   -- each line is a name, and the names are read back
@@ -68,8 +75,8 @@ module _ {xs names : List ℕ} {ns : List (List ℕ)} (h : Named xs names ns) wh
   named_sheet tick = ap (λ (l : List (List ℕ)). sheet_written tick (jobs_with tick l xs)) back.1
 
   -- and they are as many as the tasks
-  named_count : names_said names ≡ Count (length xs / 2)
-  named_count = counted names back.0 ∙ ap (λ (l : List (List ℕ)). Count (length l)) back.1 ∙ ap Count h.count
+  named_count : names_said names ≡ Some (length xs / 2)
+  named_count = counted names back.0 ∙ ap (λ (l : List (List ℕ)). Some (length l)) back.1 ∙ ap Some h.count
 
 module _ (m : ℕ) (xs names : List ℕ) (tick : ℕ) where
   -- the refusal of writing before 14
@@ -82,23 +89,24 @@ module _ (m : ℕ) (xs names : List ℕ) (tick : ℕ) where
       by_cases (eqb (bad_name names) 0)
       (λ b. let z = eqb-true (bad_name names) 0 b in let o = names_only names z in
       sym (Refused.wrong_names m xs names tick (in_range tick t)
-      (Refused.wrong_count (length xs / 2) names (counted names z) (λ c. h (names_of names) (record { text = o.1; each = o.0; count = c })))
+      (Refused.no_names (length xs / 2) names
+      (λ c. h (names_of names) (record { text = o.1; each = o.0; count = same_count (sym (counted names z) ∙ c) })))
       (λ q. omega arith)))
       (λ b. sym (Refused.wrong_names m xs names tick (in_range tick t)
-      (Refused.no_names (length xs / 2) names (uncounted names (eqb-false (bad_name names) 0 b))) (λ q. omega arith)))
+      (Refused.no_names (length xs / 2) names (λ c. none_some (sym (uncounted names (eqb-false (bad_name names) 0 b)) ∙ c))) (λ q. omega arith)))
 
   module _ {ns : List (List ℕ)} (t : TickIn tick) (h : Named xs names ns) where
     -- 18, where one stands twice
     repeated : twice ns ≡ true → R ≡ refusal 18 0
     repeated e =
         sym (Refused.wrong_names m xs names tick (in_range tick t)
-        (Refused.name_again_lem (length xs / 2) names (named_count h) refl (ap twice (back h).1 ∙ e)) (λ q. omega arith))
+        (Refused.name_again_lem (length xs / 2) names (named_count h) (ap twice (back h).1 ∙ e)) (λ q. omega arith))
 
   -- then planning's
   pub fine_refusal : {ns : List (List ℕ)} → Fine xs names tick ns → R ≡ plan_refusal m xs
   fine_refusal {ns} h =
       sym (Refused.planning m xs names tick (in_range tick h.tick_in)
-      (Refused.names_fine (length xs / 2) names (named_count h.named) refl (ap twice (back h.named).1 ∙ not_twice ns h.distinct)) refl refl)
+      (Refused.names_fine (length xs / 2) names (named_count h.named) (ap twice (back h.named).1 ∙ not_twice ns h.distinct)) refl refl)
       ∙ answers m xs
 
   module _ (room : ℕ) where

@@ -1,11 +1,14 @@
 -- The refusals of writing in their order, as the code answers them.
+use Rattle.std.specs.declared.option.Option.{Option}
+use Rattle.std.specs.declared.option.Option.TheVariants.{Some, None}
+use Rattle.std.specs.Option.{option_eq}
 use Prim.Native.Nat.{ℕ, ◌*◌, ◌/◌}
 use mathlib.Core.Path.{◌≡◌, refl, sym, ap, ◌∙◌}
-use mathlib.Core.Bool.{true, false}
+use mathlib.Core.Bool.{true, false, not}
 use mathlib.Core.List.{List}
+use borrow.Author.Tests.{eq-eqb, ne_eqb, eqb-true}
 use lib.Dec.{ltb, eqb}
 use lib.ListN.{length}
-use borrow.Author.Tests.{eq-eqb, ne_eqb, eqb-true}
 use Rattle.lists.specs.Lists.{total}
 use Rattle.lists.proofs.Tests.{by_cases}
 use Rattle.units.specs.declared.refusal.Refusal.{Refusal}
@@ -18,40 +21,46 @@ use Rattle.admission.specs.declared.admit.Admission.{Admission}
 use Rattle.admission.proofs.First.{decides, leaves}
 use Rattle.admission.proofs.Kept.{Kept, kept, neither, failed}
 use Rattle.admission.proofs.Admitting.{passed}
-use Rattle.name_list.specs.Names.{twice, names_of, names_said}
-use Rattle.name_list.specs.declared.Names.TheVariants.{Count, Unreadable}
 use Rattle.tick_length.specs.Ticks.{tick_in}
+use Rattle.name_list.specs.Names.{twice, names_of, names_said}
 use Rattle.sheet_writing.specs.Write.{tick_test, count_test, twice_test, write_refusal}
 
 -- of three tests the first that refuses
 first_of : (a b d : Refusal) → ((a or_else b) or_else d) ≡ (a or_else (b or_else d))
 first_of a b d = by_cases (eqb a.no 0) (λ e. rw e refl) (λ e. rw (e, e) refl)
 
+-- two that compare as equal are, and two that do not are not
+pub same_some : (r : Option ℕ) (n : ℕ) → false ≡ not (option_eq eqb r (Some n)) → r ≡ Some n
+same_some None n e = cc
+same_some (Some k) n e = by_cases (eqb k n) (λ h. ap Some (eqb-true k n h)) (λ h. let z : false ≡ true = rw h at e in cc)
+
+pub other_some : (r : Option ℕ) (n : ℕ) → true ≡ not (option_eq eqb r (Some n)) → r ≡ Some n → ⊥
+other_some r n e h = let z : true ≡ false = rw (h, eq-eqb n n refl) at e in cc
+
 -- the tests of the names
 abbrev pub names_test : ℕ → List ℕ → Refusal
 names_test tasks names = count_test tasks (names_said names) or_else twice_test (names_of names)
 
 module _ (tasks : ℕ) (names : List ℕ) where
-  -- a line is no name
-  pub no_names : names_said names ≡ Unreadable → refusal sheet_no 0 ≡ names_test tasks names
+  -- a line is no name, or there is not one for each task
+  pub no_names : (names_said names ≡ Some tasks → ⊥) → refusal sheet_no 0 ≡ names_test tasks names
   unfolding count_test
-  no_names e = rw e refl
+  no_names h = go (names_said names) refl
+    where
+      go : (n : Option ℕ) → names_said names ≡ n → refusal sheet_no 0 ≡ names_test tasks names
+      go None e = rw e refl
+      go (Some n) e = rw (e, ne_eqb n tasks (λ z. h (e ∙ ap Some z))) refl
 
-  module _ {n : ℕ} (e : names_said names ≡ Count n) where
-    -- there is not one for each task
-    pub wrong_count : (n ≡ tasks → ⊥) → refusal sheet_no 0 ≡ names_test tasks names
-    unfolding count_test
-    wrong_count h = rw (e, ne_eqb n tasks h) refl
-
+  module _ (e : names_said names ≡ Some tasks) where
     -- one stands twice
-    pub name_again_lem : n ≡ tasks → twice (names_of names) ≡ true → refusal name_no 0 ≡ names_test tasks names
+    pub name_again_lem : twice (names_of names) ≡ true → refusal name_no 0 ≡ names_test tasks names
     unfolding count_test
-    name_again_lem h t = rw (e, eq-eqb n tasks h, t) refl
+    name_again_lem t = rw (e, eq-eqb tasks tasks refl, t) refl
 
     -- none does
-    pub names_fine : n ≡ tasks → twice (names_of names) ≡ false → taken ≡ names_test tasks names
+    pub names_fine : twice (names_of names) ≡ false → taken ≡ names_test tasks names
     unfolding count_test
-    names_fine h t = rw (e, eq-eqb n tasks h, t) refl
+    names_fine t = rw (e, eq-eqb tasks tasks refl, t) refl
 
 module _ (m : ℕ) (xs : List ℕ) where
   -- planning's last test

@@ -1,12 +1,10 @@
 -- Writing a table as a sheet, document 02, R-1: its ticks times the tick length. Refused by 19, 17, 18, planning's, then 14.
-use Rattle.std.specs.Prelude.{ℕ, ◌*◌, ◌/◌, cond, List, [], ◌∷◌, ◌++◌, leb, eqb, length, drop}
+use Rattle.std.specs.Prelude.{Option, Some, None, ℕ, ◌*◌, ◌/◌, cond, List, [], ◌∷◌, ◌++◌, leb, eqb, length, drop}
 use Rattle.units.specs.declared.refusal.Refusal.{Refusal}
 use Rattle.units.specs.Refusals.{refusal, taken, buffer_no, sheet_no, name_no, tick_no}
 use Rattle.admission.specs.Refusals.{◌or_else◌}
 use Rattle.admission.specs.Admission.{plan_refusal}
 use Rattle.name_list.specs.Names.{twice, names_of, names_said}
-use Rattle.name_list.specs.declared.Names.{Names}
-use Rattle.name_list.specs.declared.Names.TheVariants.{Count, Unreadable}
 use Rattle.tick_length.specs.Ticks.{tick_in}
 use Rattle.sheet_text.specs.Job.{Job, job}
 use Rattle.sheet_text.specs.Grammar.{sheet_written}
@@ -24,9 +22,9 @@ abbrev pub tick_test : ℕ → Refusal
 tick_test tick = cond (tick_in tick) taken (refusal tick_no 0)
 
 -- 17: a line is no name, or there is not one for each task
-unfoldable pub count_test : ℕ → Names → Refusal
-count_test tasks (Count n) = cond (eqb n tasks) taken (refusal sheet_no 0)
-count_test tasks Unreadable = refusal sheet_no 0
+unfoldable pub count_test : ℕ → Option ℕ → Refusal
+count_test tasks (Some n) = cond (eqb n tasks) taken (refusal sheet_no 0)
+count_test tasks None = refusal sheet_no 0
 
 -- 18: the same name twice
 abbrev pub twice_test : List (List ℕ) → Refusal

@@ -13,7 +13,7 @@ ghost use Rattle.sheet_text.specs.Grammar.{job_written};
 ghost use Rattle.sheet_writing.specs.Write.{count_test, twice_test, write_refusal, sheet_for, fitted, fitted_after, written_of, written_after};
 
 use admission::admit::admit;
-use name_list::{Names, name_twice, read_names};
+use name_list::{name_twice, read_names};
 use names::name::name_end;
 use tick_length::tick_in;
 use units::refusal::Refusal;
@@ -46,17 +46,19 @@ fn put_sheet(buf: &mut [u8], table: &[u32], names: &[u8], tick: u32) -> usize
     let first = put_number(buf, 0, tick as u64);
     let mut end = put_byte(buf, first, NEWLINE);
     let mut at = 0;
-    let mut i = 0;
-    while i + 1 < table.len() {
-        let next = name_end(names, at, NEWLINE);
-        if next == 0 {
+    for k in 0..table.len() / 2 {
+        let Some(next) = name_end(names, at, NEWLINE) else {
             return end;
-        }
-        let cost = table[i];
-        let period = table[i + 1];
-        end = put_job(buf, end, &names[at..next - 1], cost, period, tick);
+        };
+        end = put_job(
+            buf,
+            end,
+            &names[at..next - 1],
+            table[2 * k],
+            table[2 * k + 1],
+            tick,
+        );
         at = next;
-        i += 2;
     }
     end
 }
@@ -65,18 +67,10 @@ fn put_sheet(buf: &mut [u8], table: &[u32], names: &[u8], tick: u32) -> usize
 fn names_refusal(names: &[u8], tasks: usize) -> u32
     ensures { refusal_of result 0 ≡ (count_test tasks (names_said names.now) or_else twice_test (names_of names.now)) }
 {
-    match read_names(names) {
-        Names::Unreadable => Refusal::SHEET,
-        Names::Count(count) => {
-            if count != tasks {
-                return Refusal::SHEET;
-            }
-            if name_twice(names) {
-                return Refusal::NAME;
-            }
-            0
-        }
+    if read_names(names) != Some(tasks) {
+        return Refusal::SHEET;
     }
+    if name_twice(names) { Refusal::NAME } else { 0 }
 }
 
 // The first refusal that applies, but for 14.
@@ -91,10 +85,9 @@ fn write_refusal(cores: u32, table: &[u32], names: &[u8], tick: u32) -> Refusal
     }
     let no = names_refusal(names, table.len() / 2);
     if no != 0 {
-        return Refusal { no: no, named: 0 };
+        return Refusal { no, named: 0 };
     }
-    let admitted = admit(cores, table);
-    admitted.refusal
+    admit(cores, table).refusal
 }
 
 // A sheet that nothing but a short buffer refuses: a first run on a buffer of one byte finds its length.
@@ -128,10 +121,7 @@ pub fn write_sheet(cores: u32, table: &[u32], names: &[u8], tick: u32, buf: &mut
 {
     let refusal = write_refusal(cores, table, names, tick);
     if refusal.no != 0 {
-        return Written {
-            refusal: refusal,
-            length: 0,
-        };
+        return Written { refusal, length: 0 };
     }
     write_taken(table, names, tick, buf)
 }

@@ -28,25 +28,19 @@ fn weight_is(common: u32, line: Line) -> bool
 fn shares_sum(line: Line) -> bool
     ensures { result ≡ shares_sum line }
 {
-    let shares = line.shares;
-    sum_of(shares) == line.weight.0 as u64
+    sum_of(line.shares) == line.weight.0 as u64
 }
 
 // All rules for a task in use.
 pub(crate) fn line_sound(common: u32, line: Line) -> bool
     ensures { result ≡ line_sound common line }
 {
-    if !line_in(line) {
-        return false;
-    }
-    weight_is(common, line) & shares_sum(line)
+    line_in(line) && weight_is(common, line) & shares_sum(line)
 }
 
 // The rule past the last task: all numbers are 0.
 pub(crate) fn line_empty(line: Line) -> bool
     ensures { result ≡ line_empty line }
 {
-    let shares = line.shares;
-    let sum = sum_of(shares);
-    (line.cost.0 == 0) & (line.period.0 == 0) & (line.weight.0 == 0) & (sum == 0)
+    (line.cost.0 == 0) & (line.period.0 == 0) & (line.weight.0 == 0) & (sum_of(line.shares) == 0)
 }

@@ -48,9 +48,7 @@ pub fn plan_sound(plan: Plan) -> bool
     let count = plan.count;
     let mut sums = Sums::NONE;
     let mut divisor: u32 = 0;
-    let mut i: usize = TASKS;
-    while 0 < i {
-        i -= 1;
+    for i in (0..TASKS).rev() {
         let line = plan.lines[i];
         if i < count {
             if !line_sound(common, line) {
@@ -61,10 +59,8 @@ pub fn plan_sound(plan: Plan) -> bool
                 return false;
             }
             sums = sums.with_line(line);
-        } else {
-            if !line_empty(line) {
-                return false;
-            }
+        } else if !line_empty(line) {
+            return false;
         }
     }
     (divisor == 1) & cores_sound(sums, plan.cores as usize, common)

@@ -1,5 +1,5 @@
 // What the tasks put on each core, summed up task by task.
-ghost use Rattle.std.specs.Prelude.{◌≡◌, true, false, ◌≤◌, max};
+ghost use Rattle.std.specs.Prelude.{◌≡◌, true, false, ◌≤◌};
 ghost use Rattle.units.specs.Limits.{common_limit};
 ghost use Rattle.units.specs.Units.{nums};
 ghost use Rattle.lists.specs.Lists.{total};
@@ -14,6 +14,7 @@ use units::limits::CORES;
 use units::share::Share;
 
 // Of each core: its load, the weight of its heaviest fixed task, its movers, those whose first core it is, the weight of the heaviest mover.
+// Five arrays and not one of structs: that leaves the vector registers, 300 of 2,780 ns of a call (docs/PROVING.md).
 #[derive(Clone, Copy)]
 pub(crate) struct Sums {
     pub(crate) loads: [Share; CORES],
@@ -21,13 +22,6 @@ pub(crate) struct Sums {
     pub(crate) movers: [u32; CORES],
     pub(crate) firsts: [u32; CORES],
     pub(crate) heaviest: [Share; CORES],
-}
-
-// The heavier of two weights.
-fn heavier(a: Share, b: Share) -> Share
-    ensures { result.0 ≡ max a.0 b.0 }
-{
-    if a.0 < b.0 { b } else { a }
 }
 
 impl Sums {
@@ -46,17 +40,10 @@ impl Sums {
         ensures { OneMore (nums shares) self result }
     {
         let mut sums = self;
-        let mut p: usize = 0;
-        while p < CORES {
-            let s = shares[p];
-            let l = sums.loads[p];
-            let f = sums.fixed[p];
-            let sum = l.0 + s.0;
-            let load = Share(sum);
-            let fixed = heavier(f, s);
-            sums.loads[p] = load;
-            sums.fixed[p] = fixed;
-            p += 1;
+        for p in 0..CORES {
+            let share = shares[p].0;
+            sums.loads[p] = Share(sums.loads[p].0 + share);
+            sums.fixed[p] = Share(sums.fixed[p].0.max(share));
         }
         sums
     }
@@ -67,24 +54,14 @@ impl Sums {
         ensures { OneMore (nums shares) self result }
     {
         let mut sums = self;
-        let first = first_core(shares);
-        let n = sums.firsts[first];
-        sums.firsts[first] = n + 1;
-        let mut p: usize = 0;
-        while p < CORES {
-            let s = shares[p];
-            let l = sums.loads[p];
-            let sum = l.0 + s.0;
-            let load = Share(sum);
-            sums.loads[p] = load;
-            if 0 < s.0 {
-                let m = sums.movers[p];
-                let h = sums.heaviest[p];
-                let heaviest = heavier(h, weight);
-                sums.movers[p] = m + 1;
-                sums.heaviest[p] = heaviest;
+        sums.firsts[first_core(shares)] += 1;
+        for p in 0..CORES {
+            let share = shares[p].0;
+            sums.loads[p] = Share(sums.loads[p].0 + share);
+            if 0 < share {
+                sums.movers[p] += 1;
+                sums.heaviest[p] = Share(sums.heaviest[p].0.max(weight.0));
             }
-            p += 1;
         }
         sums
     }

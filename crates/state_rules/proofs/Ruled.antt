@@ -1,24 +1,21 @@
--- The rules as the code tests them: a run's by its task's shares and the latest deadline, a state's by the sum of its counts first.
+-- A run's rule as the code tests it: its core first.
 use Prim.Native.Nat.{ℕ, ◌+◌, ◌-◌, ◌≤◌, ◌<◌}
-use mathlib.Core.Path.{◌≡◌, sym, ◌∙◌}
-use mathlib.Core.Bool.{Bool, true, false, cond, ◌&&◌, and-false, and_self, and_comm, and_assoc}
-use mathlib.Core.List.{List}
-use borrow.Author.Tests.{ltb-true, leb-true, eqb-true, eqb-false, ne_eqb, lt-ltb, le-ltb}
-use lib.Dec.{ltb, leb, eqb}
+use mathlib.Core.Path.{◌≡◌}
+use mathlib.Core.Bool.{Bool, true, false, ◌&&◌}
+use borrow.Author.Tests.{ltb-true, leb-true, lt-ltb, le-ltb}
+use lib.Dec.{ltb, leb}
 use lib.ListN.{get_or}
-use Rattle.units.specs.declared.share.Share.{Share}
 use Rattle.units.specs.Limits.{cores_limit, clock_limit}
-use Rattle.units.specs.Units.{share, nums}
+use Rattle.units.specs.Units.{share}
 use Rattle.units.proofs.Units.{nums_at}
-use Rattle.lists.specs.Lists.{total}
-use Rattle.lists.proofs.Tests.{by_cases, and_left, and_right}
+use Rattle.lists.proofs.Tests.{and_left, and_right}
 use Rattle.planning.specs.declared.Line.{Line}
 use Rattle.stored_runs.specs.declared.Run.{Run}
 use Rattle.task_state.specs.declared.State.{State}
 use Rattle.task_state.specs.State.{run_at}
 use Rattle.task_state.specs.Due.{due_after}
 use Rattle.stored_runs.specs.Run.{run_empty}
-use Rattle.state_rules.specs.Sound.{run_rule, runs_sound, last_sound, state_sound, runs_empty, state_empty}
+use Rattle.state_rules.specs.Sound.{run_rule}
 
 -- a run's core is from 1 to 16
 abbrev pub placed : Run → Bool
@@ -29,12 +26,6 @@ placed_in r e =
     let some = ltb 0 r.core in
     let few = leb r.core cores_limit in
     (ltb-true 0 r.core (and_left some few e), leb-true r.core cores_limit (and_right some few e))
-
--- the rule of a line with these shares, whose runs are due by the latest
-abbrev pub rule_by : List Share → ℕ → State → ℕ → Bool
-rule_by ss latest st k =
-    let r = run_at st k in
-    cond (ltb k st.live) (placed r && ltb 0 (get_or (nums ss) (r.core - 1) 0) && leb r.deadline.0 latest) (run_empty r)
 
 module _ (ln : Line) (st : State) (k : ℕ) where
   -- an unfinished run on no core
@@ -47,35 +38,6 @@ module _ (ln : Line) (st : State) (k : ℕ) where
         → run_rule ln st k ≡ (ltb 0 (get_or ln.shares ((run_at st k).core - 1) (share 0)).0 && leb (run_at st k).deadline.0 latest)
     unfinished h e = rw (lt-ltb k st.live h, e, nums_at ln.shares ((run_at st k).core - 1), q)
 
-    -- each run's rule
-    pub rule_by_lem : rule_by ln.shares latest st k ≡ run_rule ln st k
-    rule_by_lem = rw q
-
   -- what stands past the unfinished
   pub past : st.live ≤ k → run_rule ln st k ≡ run_empty (run_at st k)
   past h = rw (le-ltb k st.live h)
-
-last_first : (a b c : Bool) → (a && b && c) ≡ (c && a && b)
-last_first a b c = and_comm (a && b) c ∙ sym (and_assoc c a b)
-
--- of two numbers that differ one is not 0
-not_both : (m n : ℕ) → eqb m n ≡ false → (eqb m 0 && eqb n 0) ≡ false
-not_both m n e =
-    by_cases (eqb m 0)
-    (λ u. rw (u, ne_eqb n 0 (λ v. eqb-false m n e (eqb-true m 0 u ∙ sym v))))
-    (λ u. rw u)
-
-module _ (st : State) where
-  -- counts that do not sum to the place, of any task
-  pub other_sum : (ln : Line) (used : Bool) → eqb (total st.counts) st.place ≡ false → cond used (state_sound ln st) (state_empty st) ≡ false
-  other_sum ln true e = rw (e, and-false (runs_sound ln st))
-  other_sum ln false e = rw (not_both (total st.counts) st.place e)
-
-  module _ (e : eqb (total st.counts) st.place ≡ true) where
-    -- what is left to test of a task in use
-    pub used_left : (ln : Line) → (ltb st.place ln.weight.0 && last_sound st && runs_sound ln st) ≡ state_sound ln st
-    used_left ln = rw e (last_first (ltb st.place ln.weight.0) (last_sound st) (runs_sound ln st))
-
-    -- and of another
-    pub other_left : (eqb st.place 0 && eqb st.last.0 0 && eqb st.had 0 && eqb st.live 0 && runs_empty st) ≡ state_empty st
-    other_left = rw (eqb-true (total st.counts) st.place e, and_self (eqb st.place 0))

@@ -2,7 +2,9 @@
 #![tactic(auto)]
 
 ghost use Rattle.std.specs.Prelude.{◌≡◌, cond, ◌<◌, eqb};
+ghost use Rattle.units.specs.Limits.{runs_limit};
 ghost use Rattle.lists.specs.Lists.{total};
+ghost use Rattle.task_state.specs.State.{run_at};
 ghost use Rattle.state_rules.specs.Sound.{runs_sound, last_sound, state_sound, runs_empty, state_empty};
 
 use planning::Line;
@@ -11,25 +13,22 @@ use task_state::State;
 use task_state::due::due_after;
 use units::limits::{CLOCK, CORES, RUNS};
 
-// A count in the width of their sum: the proof knows the bound of a parameter, not of an array's element.
-fn wide(count: u32) -> u64
-    ensures { (result ≡ count) × (result < 4294967296) }
-{
-    count as u64
-}
-
 // The turn counts sum to this place.
 fn sums_to(counts: [u32; CORES], place: u32) -> bool
     ensures { result ≡ eqb (total counts) place }
 {
-    let mut all: u64 = 0;
-    let mut p: usize = 0;
-    while p < CORES {
-        let n = counts[p];
-        all += wide(n);
-        p += 1;
+    counts.iter().map(|n| *n as u64).sum::<u64>() == place as u64
+}
+
+// A stored run, from 0. The state is lent: who receives it copies it.
+fn run_of(state: &State, k: usize) -> Run
+    requires { k < runs_limit }
+    ensures { result ≡ run_at state.now k }
+{
+    Run {
+        core: state.cores[k] as usize,
+        deadline: state.deadlines[k],
     }
-    all == place as u64
 }
 
 // A task has 0 to 8 unfinished runs, each sound; past them all is 0.
@@ -41,30 +40,17 @@ fn runs_sound(state: State, line: Line) -> bool
         return false;
     }
     let shares = line.shares;
-    let after = due_after(line);
-    let latest = CLOCK + after.0 as u64;
-    let mut k: usize = 0;
-    while k < RUNS {
-        let byte = state.cores[k];
-        let core = byte as usize;
-        let deadline = state.deadlines[k];
-        let run = Run {
-            core: core,
-            deadline: deadline,
+    let latest = CLOCK + due_after(line).0 as u64;
+    for k in 0..RUNS {
+        let run = run_of(&state, k);
+        let fine = if k < live {
+            run.placed() && run.sound(shares[run.core - 1], latest)
+        } else {
+            run.empty()
         };
-        if k < live {
-            if !run.placed() {
-                return false;
-            }
-            let at = run.core - 1;
-            let share = shares[at];
-            if !run.sound(share, latest) {
-                return false;
-            }
-        } else if !run.empty() {
+        if !fine {
             return false;
         }
-        k += 1;
     }
     true
 }
@@ -80,19 +66,10 @@ fn last_sound(state: State) -> bool
 fn runs_empty(state: State) -> bool
     ensures { result ≡ runs_empty state }
 {
-    let mut k: usize = 0;
-    while k < RUNS {
-        let byte = state.cores[k];
-        let core = byte as usize;
-        let deadline = state.deadlines[k];
-        let run = Run {
-            core: core,
-            deadline: deadline,
-        };
-        if !run.empty() {
+    for k in 0..RUNS {
+        if !run_of(&state, k).empty() {
             return false;
         }
-        k += 1;
     }
     true
 }
@@ -101,8 +78,7 @@ fn runs_empty(state: State) -> bool
 pub fn state_ok(state: State, used: bool, line: Line) -> bool
     ensures { result ≡ cond used (state_sound line state) (state_empty state) }
 {
-    let counts = state.counts;
-    if !sums_to(counts, state.place) {
+    if !sums_to(state.counts, state.place) {
         return false;
     }
     if used {

@@ -31,7 +31,7 @@ impl Run {
         (0 < share.0) & (self.deadline.0 <= latest)
     }
 
-    // All numbers are 0.
+    // All numbers are 0. `==` with an empty run would be no plainer: it asks for the equality of `Ticks` too.
     pub fn empty(self) -> bool
         ensures { result ≡ run_empty self }
     {

@@ -1,9 +1,7 @@
 -- What a reading of the input answers. No contract can say which bytes are read.
-use Rattle.std.specs.Prelude.{ℕ}
-use Rattle.streams.specs.declared.Input.{Input}
-use Rattle.streams.specs.declared.Input.TheVariants.{Got, Failed}
+use Rattle.std.specs.Prelude.{ℕ, Option, Some, None}
 
 -- how many bytes of the buffer it filled
-abbrev pub bytes_of : Input → ℕ
-bytes_of (Got n) = n
-bytes_of Failed = 0
+abbrev pub bytes_of : Option ℕ → ℕ
+bytes_of (Some n) = n
+bytes_of None = 0

@@ -1,16 +1,15 @@
 -- A text that says a table or names a line by its form is read so.
+use Rattle.std.specs.declared.option.Option.TheVariants.{Some, None}
 use Prim.Native.Nat.{ℕ, suc, ◌+◌, ◌-◌, ◌/◌, ◌≤◌, ◌<◌}
 use mathlib.Core.Path.{◌≡◌, refl, sym, ap, ◌∙◌}
 use mathlib.Core.Logic.{inl, inr}
 use mathlib.Core.List.{List, [], ◌∷◌, ◌++◌, append_assoc, append-nil}
 use native.Mathlib.Omega.{arith}
 use lib.ListN.{length, drop, length-drop}
-use Rattle.scanning.specs.Lines.{pair_end}
-use Rattle.scanning.proofs.Sought.{Sought, first, later, here, ended}
-use Rattle.scanning.specs.declared.number.Number.{Number}
-use Rattle.scanning.specs.declared.number.Number.TheVariants.{Value, NoNumber}
-use Rattle.scanning.specs.declared.line.Pair.{Pair}
-use Rattle.scanning.specs.declared.line.Pair.TheVariants.{Two, NoPair}
+use Rattle.scanning.specs.Lines.{pair_end, unless_zero}
+use Rattle.scanning.proofs.Sought.{Sought, first, later, here, ended, zero_told, other_told}
+use Rattle.scanning.specs.Number.{Number}
+use Rattle.scanning.specs.Line.{Pair}
 use Rattle.table_text.specs.Text.{Said, text_of, says, unreadable, cores_line, task_line, task_end, numbers_from}
 use Rattle.table_text.specs.Grammar.{cores_written, task_written, tasks_written, Tasks, Starts, LengthIn, NoCores, NoTask, Says, table, length_out, first_line, later_line}
 use Rattle.table_text.proofs.Tables.{task_kept, numbers_done, numbers_later}
@@ -23,7 +22,7 @@ later_tasks c t xs h = (omega (arith, h.0), λ i k. h.1 (suc (suc i)) (omega ari
 
 module _ (s : List ℕ) where
   -- the place after a line
-  end_is : (at : ℕ) {c t a : ℕ} → task_line s at ≡ Two c t a → task_end s at ≡ a
+  end_is : (at : ℕ) {c t a : ℕ} → task_line s at ≡ Some (c, t, a) → task_end s at ≡ a
   unfolding pair_end
   end_is at e = ap pair_end e
 
@@ -33,8 +32,8 @@ module _ (s : List ℕ) where
   end_none at h = go (task_line s at) refl
     where
       go : (p : Pair) → task_line s at ≡ p → pair_end p ≡ 0
-      go (Two c t a) e = let k = task_kept s at c t a e in absurd (h c t (drop a s) k.0 k.1 (task_read s at c t a e))
-      go NoPair e = refl
+      go (Some (c, t, a)) e = let k = task_kept s at c t a e in absurd (h c t (drop a s) k.0 k.1 (task_read s at c t a e))
+      go None e = refl
 
   -- after the lines of some tasks the first unreadable one is looked for in the rest
   lines_read : (xs rest : List ℕ) (from line at : ℕ) → Tasks xs → Sought (task_end s) (length s) 2 from line at → drop at s ≡ tasks_written xs ++ rest
@@ -64,7 +63,7 @@ module _ (s : List ℕ) where
 
   module _ {m : ℕ} {xs rest : List ℕ} (h : Starts s m xs rest) where
     -- the line of the core count
-    after_cores_lem : (a : ℕ) × (cores_line s ≡ Value m a) × (drop a s ≡ tasks_written xs ++ rest)
+    after_cores_lem : (a : ℕ) × (cores_line s ≡ Some (m, a)) × (drop a s ≡ tasks_written xs ++ rest)
     after_cores_lem = cores_written_lem s m (tasks_written xs ++ rest) h.cores (h.lines ∙ append_assoc (cores_written m) (tasks_written xs) rest)
 
     -- the search for the first unreadable line, at the rest
@@ -80,7 +79,7 @@ module _ (s : List ℕ) where
         let r = at_rest in
         let b = here (task_end s) (length s) 2 c.0 (length xs / 2 + 2) r.0 r.1 (within s r.0 r.2 p)
         (end_none r.0 (rw r.2 n)) in
-        text_table s k (λ z. omega arith) c.1 ∙ table_line s m c.0 (sym b) (λ z. omega arith)
+        text_table s k (λ z. omega arith) c.1 ∙ table_line s m c.0 (sym (ap unless_zero b ∙ other_told (λ z. omega arith)))
 
   -- with no rest the text says the table
   no_rest : {m : ℕ} {xs : List ℕ} → Starts s m xs [] → length s ≤ 4096 → 0 < length s → text_of s ≡ says m xs
@@ -89,15 +88,15 @@ module _ (s : List ℕ) where
       let r = at_rest h in
       let b = ended (task_end s) (length s) 2 c.0 (length xs / 2 + 2) r.0 r.1 (omega (arith, length-drop r.0 s, ap length r.2)) in
       let n = numbers_read xs (length s) c.0 h.tasks (omega arith) (c.2 ∙ append-nil (tasks_written xs)) in
-      text_table s k (λ z. omega arith) c.1 ∙ table_says s m c.0 (sym b) refl ∙ ap (says m) n
+      text_table s k (λ z. omega arith) c.1 ∙ table_says s m c.0 (sym (zero_told b)) ∙ ap (says m) n
 
   -- the first line is not of the form
   no_first : LengthIn s → NoCores s → text_of s ≡ unreadable 1
   no_first l h = text_first s l.1 (λ z. omega (arith, l.0)) (go (cores_line s) refl)
     where
-      go : (n : Number) → cores_line s ≡ n → n ≡ NoNumber
-      go (Value m a) e = let r = cores_read s m a e in absurd (h m (drop a s) r.0 r.1)
-      go NoNumber e = refl
+      go : (n : Number) → cores_line s ≡ n → n ≡ None
+      go (Some (m, a)) e = let r = cores_read s m a e in absurd (h m (drop a s) r.0 r.1)
+      go None e = refl
 
   -- what a text says by its form is what is read
   pub reads : {x : Said} → Says s x → text_of s ≡ x

@@ -1,4 +1,5 @@
 -- A text has at most 2,048 numbers, each of them of two bytes or more: a lent table of that length holds them all.
+use Rattle.std.specs.declared.option.Option.TheVariants.{Some, None}
 use Prim.Native.Nat.{ℕ, zero, suc, ◌+◌, ◌-◌, ◌*◌, ◌≤◌, ◌<◌}
 use mathlib.Core.Path.{◌≡◌, refl, ap, ◌∙◌}
 use mathlib.Core.List.{List}
@@ -12,17 +13,15 @@ use Rattle.writing.specs.Ascii.{newline}
 use Rattle.scanning.proofs.Fields.{field_kept}
 use Rattle.table_text.specs.Text.{text_limit, number_bound, cores_line, task_line, bad_task, then_later, numbers_from, table_from, after_cores, text_of, table_said}
 use Rattle.table_text.proofs.Tables.{task_kept}
-use Rattle.scanning.specs.declared.number.Number.{Number}
-use Rattle.scanning.specs.declared.number.Number.TheVariants.{Value, NoNumber}
-use Rattle.scanning.specs.declared.line.Pair.{Pair}
-use Rattle.scanning.specs.declared.line.Pair.TheVariants.{Two, NoPair}
+use Rattle.scanning.specs.Number.{Number}
+use Rattle.scanning.specs.Line.{Pair}
 
 -- one line, of four bytes or more, before the later ones
-line_fits : (n at : ℕ) (later : ℕ → List ℕ) (line : Pair) → at < n → ((c t next : ℕ) → line ≡ Two c t next → at + 4 ≤ next)
+line_fits : (n at : ℕ) (later : ℕ → List ℕ) (line : Pair) → at < n → ((c t next : ℕ) → line ≡ Some (c, t, next) → at + 4 ≤ next)
     → ((next : ℕ) → 2 * length (later next) ≤ n + 3 - next) → 2 * length (then_later later line) ≤ n + 3 - at
 unfolding then_later
-line_fits n at later (Two c t next) h f g = omega (arith, f c t next refl, g next)
-line_fits n at later NoPair h f g = omega arith
+line_fits n at later (Some (c, t, next)) h f g = omega (arith, f c t next refl, g next)
+line_fits n at later None h f g = omega arith
 
 -- the numbers from a place on; the last line may end past the text by three bytes
 numbers_fit : (f : ℕ) (s : List ℕ) (at : ℕ) → 2 * length (numbers_from f s at) ≤ length s + 3 - at
@@ -40,10 +39,10 @@ unfolding table_from table_said
 table_fits s m at h k =
     by_cases (eqb (bad_task s at) 0) (λ e. rw e (omega (arith, numbers_fit (length s) s at))) (λ e. rw e (omega arith))
 
-after_fits : (s : List ℕ) (n : Number) → length s ≤ text_limit → ((m at : ℕ) → n ≡ Value m at → 2 ≤ at) → length (table_said (after_cores s n)) ≤ 2048
+after_fits : (s : List ℕ) (n : Number) → length s ≤ text_limit → ((m at : ℕ) → n ≡ Some (m, at) → 2 ≤ at) → length (table_said (after_cores s n)) ≤ 2048
 unfolding after_cores table_said
-after_fits s (Value m at) h f = table_fits s m at (f m at refl) h
-after_fits s NoNumber h f = omega arith
+after_fits s (Some (m, at)) h f = table_fits s m at (f m at refl) h
+after_fits s None h f = omega arith
 
 -- the numbers of a text
 pub text_fits : (s : List ℕ) → length (table_said (text_of s)) ≤ 2048

@@ -1,14 +1,13 @@
 -- Every text has one of the forms; so what is read is what the text says by its form, and nothing else.
+use Rattle.std.specs.declared.option.Option.TheVariants.{Some, None}
 use Prim.Native.Nat.{ℕ, zero, suc, ◌≤◌, ◌<◌}
 use mathlib.Core.Path.{◌≡◌, refl, sym, ap, ◌∙◌}
 use mathlib.Core.Logic.{◌↔◌, ◌⊎◌, inl, inr}
 use mathlib.Core.List.{List, [], ◌∷◌, ◌++◌, append_assoc}
 use native.Mathlib.Omega.{arith}
 use lib.ListN.{length, get_or, drop, length-drop, drop_of_length-le}
-use Rattle.scanning.specs.declared.number.Number.{Number}
-use Rattle.scanning.specs.declared.number.Number.TheVariants.{Value, NoNumber}
-use Rattle.scanning.specs.declared.line.Pair.{Pair}
-use Rattle.scanning.specs.declared.line.Pair.TheVariants.{Two, NoPair}
+use Rattle.scanning.specs.Number.{Number}
+use Rattle.scanning.specs.Line.{Pair}
 use Rattle.table_text.specs.Text.{Said, text_of, says, unreadable, cores_line, task_line}
 use Rattle.table_text.specs.Grammar.{Small, cores_written, task_written, tasks_written, Tasks, Starts, LengthIn, NoTask, Says, table, length_out, first_line, later_line}
 use Rattle.table_text.proofs.Tables.{task_kept}
@@ -42,8 +41,8 @@ All l = (xs : List ℕ) × (rest : List ℕ) × Lines l xs rest × ((rest ≡ []
 
 -- the first line, and those of what is left
 next_line : (l : List ℕ) → 0 < length l → ((a : ℕ) → 0 < a → All (drop a l)) → (p : Pair) → task_line l 0 ≡ p → All l
-next_line l h f NoPair e = ([], l, no_lines l, inr (h, task_none l 0 e))
-next_line l h f (Two c t a) e =
+next_line l h f None e = ([], l, no_lines l, inr (h, task_none l 0 e))
+next_line l h f (Some (c, t, a)) e =
     let k = task_kept l 0 c t a e in
     let r = f a (omega (arith, k.2)) in
     (c ∷ t ∷ r.0, r.1, more_lines c t l (drop a l) r.0 r.1 k.0 k.1 (task_read l 0 c t a e) r.2, r.3)
@@ -57,7 +56,7 @@ all_lines (suc f) l h =
 
 module _ (s : List ℕ) where
   -- after the line of the core count
-  of_lines : LengthIn s → (m a : ℕ) → cores_line s ≡ Value m a → All (drop a s) → (x : Said) × Says s x
+  of_lines : LengthIn s → (m a : ℕ) → cores_line s ≡ Some (m, a) → All (drop a s) → (x : Said) × Says s x
   of_lines h m a e (xs, rest, r, o) = go o
     where
       starts : Starts s m xs rest
@@ -78,8 +77,8 @@ module _ (s : List ℕ) where
   of_length h = go (cores_line s) refl
     where
       go : (n : Number) → cores_line s ≡ n → (x : Said) × Says s x
-      go NoNumber e = (unreadable 1, first_line h (cores_none s e))
-      go (Value m a) e = of_lines h m a e (all_lines (length (drop a s)) (drop a s) (omega arith))
+      go None e = (unreadable 1, first_line h (cores_none s e))
+      go (Some (m, a)) e = of_lines h m a e (all_lines (length (drop a s)) (drop a s) (omega arith))
 
   -- any text
   some_form : (x : Said) × Says s x

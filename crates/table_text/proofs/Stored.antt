@@ -1,14 +1,14 @@
 -- Storing the numbers of the task lines.
-use Prim.Native.Nat.{ℕ, suc, ◌+◌, ◌-◌, ◌*◌, ◌≤◌, ◌<◌}
+use Rattle.std.specs.declared.option.Option.TheVariants.{Some, None}
+use Prim.Native.Nat.{ℕ, suc, ◌+◌, ◌-◌, ◌*◌, ◌≤◌}
 use mathlib.Core.Path.{◌≡◌, refl, sym, ap, ◌∙◌}
-use mathlib.Core.List.{List, [], ◌∷◌}
+use mathlib.Core.List.{List, ◌∷◌}
 use native.Mathlib.Omega.{arith}
 use native.Mathlib.Nat.{sub-zero}
 use lib.ListN.{length, set, length-set}
 use lib.Seq.{sets}
 use Rattle.table_text.specs.Text.{task_line, numbers_from}
-use Rattle.table_text.proofs.Tables.{task_kept, numbers_none, numbers_later}
-use Rattle.scanning.specs.declared.line.Pair.TheVariants.{Two, NoPair}
+use Rattle.table_text.proofs.Tables.{task_kept, task_inside, numbers_none, numbers_later}
 
 -- two stores, and then the later numbers
 pub stored_two : (l : List ℕ) (i c t : ℕ) (r : List ℕ) → sets l (2 * i) (c ∷ t ∷ r) ≡ sets (set (set l (2 * i) c) (2 * i + 1) t) (2 * (i + 1)) r
@@ -32,9 +32,10 @@ start s from l = record { ahead = omega arith; within = omega arith; long = refl
 
 module _ (s : List ℕ) (from : ℕ) (before : List ℕ) {now : List ℕ} (i at : ℕ) (h : Stored s from before now i at) where
   -- the two numbers of one more task
-  pub more : {l₁ l₂ : List ℕ} (c t : ℕ) {next : ℕ} → at < length s → task_line s at ≡ Two c t next → l₁ ≡ set now (2 * i) c → l₂ ≡ set l₁ (2 * i + 1) t
+  pub more : {l₁ l₂ : List ℕ} (c t : ℕ) {next : ℕ} → task_line s at ≡ Some (c, t, next) → l₁ ≡ set now (2 * i) c → l₂ ≡ set l₁ (2 * i + 1) t
       → Stored s from before l₂ (i + 1) next
-  more {l₁} {l₂} c t {next} k p a b =
+  more {l₁} {l₂} c t {next} p a b =
+      let k = task_inside s at c t next p in
       let e : length s - i ≡ suc (length s - (i + 1)) = omega (arith, h.ahead) in
       let q = numbers_later s at _ _ e k p in
       record {
@@ -45,13 +46,8 @@ module _ (s : List ℕ) (from : ℕ) (before : List ℕ) {now : List ℕ} (i at 
         table = h.table ∙ rw (q, b, a) (stored_two now i c t (numbers_from (length s - (i + 1)) s next));
       }
 
-  -- an unreadable line has no number
-  pub none_here : at < length s → task_line s at ≡ NoPair → numbers_from (length s - i) s at ≡ []
-  none_here k p =
-      let e : length s - i ≡ suc (length s - (i + 1)) = omega (arith, h.ahead) in
-      numbers_none s at _ _ e k p
-
-  -- with no more numbers all stand
-  pub whole : numbers_from (length s - i) s at ≡ []
-      → (2 * i ≡ length (numbers_from (length s) s from)) × (now ≡ sets before 0 (numbers_from (length s) s from))
-  whole e = (omega (arith, h.count, ap length e), sym (h.table ∙ rw e refl))
+  -- where no line can be read all stand
+  pub whole : task_line s at ≡ None → (2 * i ≡ length (numbers_from (length s) s from)) × (now ≡ sets before 0 (numbers_from (length s) s from))
+  whole p =
+      let e = numbers_none s at (length s - i) p in
+      (omega (arith, h.count, ap length e), sym (h.table ∙ rw e refl))

@@ -1,16 +1,20 @@
 -- What a text says, document 01: one line with M, then a line `C T` for each task, at most 4,096 bytes.
-use Rattle.std.specs.Prelude.{ℕ, zero, suc, cond, List, [], ◌∷◌, ltb, eqb, length}
+use Rattle.std.specs.Prelude.{Result, Ok, Err, Some, None, ℕ, zero, suc, cond, List, [], ◌∷◌, ltb, eqb, length}
 use Rattle.units.specs.declared.refusal.Refusal.{Refusal}
 use Rattle.units.specs.Refusals.{refusal, taken, text_no}
 use Rattle.writing.specs.Ascii.{newline}
 use Rattle.scanning.specs.Line.{field_at, pair_at}
 use Rattle.scanning.specs.Lines.{pair_end, unreadable_from}
-use Rattle.scanning.specs.declared.number.Number.{Number}
-use Rattle.scanning.specs.declared.number.Number.TheVariants.{Value, NoNumber}
-use Rattle.scanning.specs.declared.line.Pair.{Pair}
-use Rattle.scanning.specs.declared.line.Pair.TheVariants.{Two, NoPair}
-use Rattle.table_text.specs.declared.Reading.{Reading}
-use Rattle.table_text.specs.declared.Reading.TheVariants.{Read, Unreadable}
+use Rattle.scanning.specs.Number.{Number}
+use Rattle.scanning.specs.Line.{Pair}
+use Rattle.table_text.specs.declared.TableRead.{TableRead}
+
+-- what is read of a text: a core count and how many numbers its table has, or the line that is named
+abbrev pub Reading : Type 0
+Reading = Result TableRead ℕ
+
+abbrev pub read : ℕ → ℕ → TableRead
+read m n = record { cores = m; count = n }
 
 -- what a text says: a core count and the table's numbers, or nothing, and then a line is named
 pub data Said : Type 0 where
@@ -43,8 +47,8 @@ bad_task s at = unreadable_from (task_end s) (length s) (length s) 2 at
 
 -- this line's cost, then its period, then the later lines' numbers
 unfoldable pub then_later : (ℕ → List ℕ) → Pair → List ℕ
-then_later later (Two c t next) = c ∷ t ∷ later next
-then_later later NoPair = []
+then_later later (Some (c, t, next)) = c ∷ t ∷ later next
+then_later later None = []
 
 -- the table's numbers from a place on, cost then period for each task; f is no less than the lines' number
 unfoldable pub numbers_from : ℕ → List ℕ → ℕ → List ℕ
@@ -57,8 +61,8 @@ table_from s m at = cond (eqb (bad_task s at) 0) (says m (numbers_from (length s
 
 -- the core count, then the table; the core count's line is the first
 unfoldable pub after_cores : List ℕ → Number → Said
-after_cores s (Value m at) = table_from s m at
-after_cores s NoNumber = unreadable 1
+after_cores s (Some (m, at)) = table_from s m at
+after_cores s None = unreadable 1
 
 -- the whole text; line 0 is named where it is too long or empty, tested first, else the first unreadable line
 unfoldable pub text_of : List ℕ → Said
@@ -74,10 +78,10 @@ table_said (unreadable line) = []
 
 -- the answer: the core count and how many numbers there are, or the line that is named
 unfoldable pub answer_of : Said → Reading
-answer_of (says m xs) = Read m (length xs)
-answer_of (unreadable line) = Unreadable line
+answer_of (says m xs) = Ok (read m (length xs))
+answer_of (unreadable line) = Err line
 
 -- the refusal that an answer is: none, or 16, naming the line
 abbrev pub reading_refusal : Reading → Refusal
-reading_refusal (Read m n) = taken
-reading_refusal (Unreadable line) = refusal text_no line
+reading_refusal (Ok r) = taken
+reading_refusal (Err line) = refusal text_no line

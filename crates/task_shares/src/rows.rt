@@ -11,11 +11,8 @@ pub fn sum_of(shares: [Share; CORES]) -> u64
     ensures { result ≡ sum_of (nums shares) }
 {
     let mut sum: u64 = 0;
-    let mut p: usize = 0;
-    while p < CORES {
-        let s = shares[p];
+    for s in shares {
         sum += s.0 as u64;
-        p += 1;
     }
     sum
 }
@@ -24,14 +21,12 @@ pub fn sum_of(shares: [Share; CORES]) -> u64
 pub fn parts_of(shares: [Share; CORES]) -> usize
     ensures { result ≡ parts_of (nums shares) }
 {
+    // A chain of filter and count takes twice the time.
     let mut parts: usize = 0;
-    let mut p: usize = 0;
-    while p < CORES {
-        let s = shares[p];
+    for s in shares {
         if 0 < s.0 {
             parts += 1;
         }
-        p += 1;
     }
     parts
 }
@@ -40,13 +35,5 @@ pub fn parts_of(shares: [Share; CORES]) -> usize
 pub fn first_core(shares: [Share; CORES]) -> usize
     ensures { result ≡ first_part (nums shares) }
 {
-    let mut p: usize = 0;
-    while p < CORES {
-        let s = shares[p];
-        if 0 < s.0 {
-            return p;
-        }
-        p += 1;
-    }
-    p
+    shares.iter().position(|s| 0 < s.0).unwrap_or(CORES)
 }

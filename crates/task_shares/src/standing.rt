@@ -25,13 +25,12 @@ pub fn stands(moves: bool, share: Share, first: usize, core: usize) -> Standing
     ensures { result ≡ standing_by moves share.0 first core }
 {
     if share.0 == 0 {
-        return Standing::Absent;
+        Standing::Absent
+    } else if !moves {
+        Standing::Fixed
+    } else if first == core {
+        Standing::Lower
+    } else {
+        Standing::Upper
     }
-    if !moves {
-        return Standing::Fixed;
-    }
-    if first == core {
-        return Standing::Lower;
-    }
-    Standing::Upper
 }

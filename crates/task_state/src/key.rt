@@ -17,11 +17,8 @@ impl State {
         requires { time.0 ≤ clock_limit }
         ensures { result ≡ waits_on line self core time.0 }
     {
-        let at = self.cores[0];
-        let oldest = self.deadlines[0];
-        let after = due_after(line);
-        let early = held(oldest, after, time);
-        (0 < self.live) & (at as usize == core) & !early
+        let early = held(self.deadlines[0], due_after(line), time);
+        (0 < self.live) & (self.cores[0] as usize == core) & !early
     }
 
     // The least key goes first: an upper mover, then a lower one, then fixed tasks by earliest deadline.
@@ -30,17 +27,13 @@ impl State {
         ensures { result ≡ key_of line self core }
     {
         let shares = line.shares;
-        let deadline = self.deadlines[0];
         let at = core - 1;
-        let s = shares[at];
         let moves = moves_by(parts_of(shares));
         let first = first_core(shares);
-        let due = 2 + deadline.0;
-        match stands(moves, s, first, at) {
+        match stands(moves, shares[at], first, at) {
             Standing::Upper => 0,
             Standing::Lower => 1,
-            Standing::Fixed => due,
-            Standing::Absent => due,
+            Standing::Fixed | Standing::Absent => 2 + self.deadlines[0].0,
         }
     }
 }

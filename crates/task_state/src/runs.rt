@@ -24,20 +24,16 @@ impl State {
         requires { Releasable line self time.0 }
         ensures { result ≡ taken_run line self time.0 }
     {
-        let shares = line.shares;
-        let counts = self.counts;
-        let turn = turn_of(line.weight, self.place, shares, counts);
-        let last = self.last;
-        let period = line.period;
-        let released = release_time(self.had, last, period, time);
+        let turn = turn_of(line.weight, self.place, line.shares, self.counts);
+        let released = release_time(self.had, self.last, line.period, time);
         let after = due_after(line);
         let due = released.0 + after.0 as u64;
         let deadline = Ticks(due);
         let core = turn.core;
-        let counted = turn.counts;
+        let counts = turn.counts;
         let at = self.live as usize;
         let mut state = self;
-        state.counts = counted;
+        state.counts = counts;
         state.place = turn.place;
         state.last = released;
         state.deadlines[at] = deadline;
@@ -45,37 +41,22 @@ impl State {
         state.live = self.live + 1;
         state.had = 1;
         Taken {
-            state: state,
-            core: core,
-            deadline: deadline,
+            state,
+            core,
+            deadline,
         }
     }
 
     // Without the oldest run: the others move up.
-    pub fn without_run(self) -> State
+    pub fn without_run(mut self) -> State
         requires { 0 < self.live }
         ensures { result ≡ without_run self }
     {
-        let d1 = self.deadlines[1];
-        let d2 = self.deadlines[2];
-        let d3 = self.deadlines[3];
-        let d4 = self.deadlines[4];
-        let d5 = self.deadlines[5];
-        let d6 = self.deadlines[6];
-        let d7 = self.deadlines[7];
-        let deadlines = [d1, d2, d3, d4, d5, d6, d7, Ticks(0)];
-        let c1 = self.cores[1];
-        let c2 = self.cores[2];
-        let c3 = self.cores[3];
-        let c4 = self.cores[4];
-        let c5 = self.cores[5];
-        let c6 = self.cores[6];
-        let c7 = self.cores[7];
-        let cores = [c1, c2, c3, c4, c5, c6, c7, 0];
-        let mut state = self;
-        state.deadlines = deadlines;
-        state.cores = cores;
-        state.live = self.live - 1;
-        state
+        self.deadlines[0] = Ticks(0);
+        self.deadlines.rotate_left(1);
+        self.cores[0] = 0;
+        self.cores.rotate_left(1);
+        self.live -= 1;
+        self
     }
 }

@@ -16,9 +16,7 @@ impl State {
         requires { self.last.0 ≤ clock_limit }
         ensures { result ≡ release_tests line self time.0 }
     {
-        let last = self.last;
-        let period = line.period;
-        let released = release_time(self.had, last, period, time);
+        let released = release_time(self.had, self.last, line.period, time);
         release_tests(released, self.live as usize)
     }
 
@@ -27,9 +25,7 @@ impl State {
         requires { time.0 ≤ clock_limit }
         ensures { result ≡ finish_tests line self time.0 }
     {
-        let oldest = self.deadlines[0];
-        let after = due_after(line);
-        let early = held(oldest, after, time);
+        let early = held(self.deadlines[0], due_after(line), time);
         finish_tests(self.live as usize, early)
     }
 }

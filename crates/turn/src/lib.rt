@@ -12,7 +12,7 @@ use arith::ceiling::ceil_div;
 use units::limits::CORES;
 use units::share::Share;
 
-// The best core so far, from 1 (0: none), and the place by which its next run is due.
+// The best core so far, from 1 (0: none, as `nobody` of specs/Turn has it), and the place by which its next run is due.
 #[derive(Clone, Copy)]
 pub struct Best {
     pub core: usize,
@@ -38,7 +38,7 @@ fn better_core(best: Best, j: usize, share: u32, count: u32, weight: u32, place:
         return best;
     }
     let due = ceil_div((n + 1) * w, s);
-    let here = Best { core: j, due: due };
+    let here = Best { core: j, due };
     if best.core == 0 {
         return here;
     }
@@ -52,12 +52,8 @@ pub fn turn_of(weight: Share, place: u32, shares: [Share; CORES], counts: [u32; 
 {
     let w = weight.0;
     let mut best = Best { core: 0, due: 0 };
-    let mut j: usize = 0;
-    while j < CORES {
-        let s = shares[j];
-        let n = counts[j];
-        best = better_core(best, j + 1, s.0, n, w, place);
-        j += 1;
+    for j in 0..CORES {
+        best = better_core(best, j + 1, shares[j].0, counts[j], w, place);
     }
     counted(best.core, counts, w, place)
 }
@@ -69,16 +65,15 @@ fn counted(core: usize, counts: [u32; CORES], weight: u32, place: u32) -> Turn
 {
     if place + 1 == weight {
         return Turn {
-            core: core,
-            counts: [0u32; CORES],
+            core,
+            counts: [0; CORES],
             place: 0,
         };
     }
-    let j = core - 1;
     let mut next = counts;
-    next[j] = next[j] + 1;
+    next[core - 1] += 1;
     Turn {
-        core: core,
+        core,
         counts: next,
         place: place + 1,
     }

@@ -32,27 +32,14 @@ fn put_run(
     ensures windowed { Windowed out.old skip at (event_text (run_left state work had task k)) out.new result }
     ensures upper_bound { result ≤ at + 180 }
 {
-    let core = state.cores[k];
-    let deadline = state.deadlines[k];
-    let length = work.lengths[k];
-    let number = core as usize;
-    let oldest = work.ended + 1;
-    let run = oldest + k as u64;
     let ran = Ran {
-        core: number,
-        task: task,
-        run: run,
+        core: state.cores[k] as usize,
+        task,
+        run: work.ended + 1 + k as u64,
     };
-    let mut ticks = 0;
-    if k == 0 {
-        ticks = had;
-    }
-    put_within(
-        out,
-        skip,
-        at,
-        Event::Unfinished(ran, deadline, ticks, length),
-    )
+    let ticks = if k == 0 { had } else { 0 };
+    let event = Event::Unfinished(ran, state.deadlines[k], ticks, work.lengths[k]);
+    put_within(out, skip, at, event)
 }
 
 // A task's unfinished runs, oldest first.
@@ -69,12 +56,9 @@ fn put_runs(
     ensures windowed { Windowed out.old skip at (events_text (runs_left state work had task state.live)) out.new result }
     ensures upper_bound { result ≤ at + 180 * runs_limit }
 {
-    let live = state.live as usize;
     let mut end = at;
-    let mut k: usize = 0;
-    while k < live {
+    for k in 0..state.live as usize {
         end = put_run(out, skip, end, task, k, state, work, had);
-        k += 1;
     }
     end
 }
@@ -93,15 +77,8 @@ pub fn put_unfinished(
     ensures upper_bound { result ≤ at + 180 * runs_limit * count }
 {
     let mut end = at;
-    let mut i: usize = 0;
-    while i < count {
-        let seat = seats[i];
-        let state = seat.state;
-        let work = seat.work;
-        let ran = had[i];
-        let task = i + 1;
-        end = put_runs(out, skip, end, task, state, work, ran);
-        i += 1;
+    for i in 0..count {
+        end = put_runs(out, skip, end, i + 1, seats[i].state, seats[i].work, had[i]);
     }
     end
 }

@@ -10,7 +10,7 @@ pub struct Refusal {
 }
 
 impl Refusal {
-    pub const NONE: Refusal = Refusal { no: 0, named: 0 };
+    pub const NONE: Self = Self { no: 0, named: 0 };
 
     // Core count 0 or above 16.
     pub const CORES: u32 = 1;

@@ -10,32 +10,28 @@ pub struct Share(pub u32);
 
 impl Share {
     // The empty share.
-    pub const EMPTY: Share = Share(0);
+    pub const EMPTY: Self = Self(0);
 
     // The largest sum: sixteen whole cores. No list that is taken weighs more; what is refused by 6 may.
-    pub const LARGEST: Share = Share(CORES as u32 * COMMON);
+    pub const LARGEST: Self = Self(CORES as u32 * COMMON);
 
-    pub fn largest() -> Share
+    pub fn largest() -> Self
         ensures { result.0 ≡ cores_limit * common_limit }
     {
-        Share::LARGEST
+        Self::LARGEST
     }
 
     // The smaller of two.
-    pub fn smaller(self, other: Share) -> Share
+    pub fn smaller(self, other: Self) -> Self
         ensures { result.0 ≡ min self.0 other.0 }
     {
-        if self.0 < other.0 { self } else { other }
+        Self(self.0.min(other.0))
     }
 
     // The rest of a core of this many units beside a load.
-    pub fn rest(self, load: Share) -> Share
+    pub fn rest(self, load: Self) -> Self
         ensures { result.0 ≡ self.0 - load.0 }
     {
-        if load.0 < self.0 {
-            Share(self.0 - load.0)
-        } else {
-            Share::EMPTY
-        }
+        Self(self.0.saturating_sub(load.0))
     }
 }

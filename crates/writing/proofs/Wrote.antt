@@ -1,12 +1,15 @@
 -- Laws of what a writer did.
 use Prim.Native.Nat.{ℕ, suc, ◌+◌, ◌≤◌, ◌<◌}
 use mathlib.Core.Path.{◌≡◌, refl, sym, ap, ◌∙◌, subst}
-use mathlib.Core.List.{List, [], ◌∷◌, ◌++◌}
+use mathlib.Core.List.{List, [], ◌∷◌, ◌++◌, append_assoc}
 use native.Mathlib.Nat.{add-zero, add-suc, suc-add, add_assoc}
 use native.Mathlib.Numerals.{add-one}
 use native.Mathlib.Omega.{arith}
 use lib.ListN.{length, get_or, set, take, drop, length-append}
-use lib.Seq.{sets, sets-eq, length-sets, take-suc, take-length}
+use lib.Seq.{sets, sets-eq, length-sets, take-suc}
+use borrow.Rule.Slice.PartMut.{put_mid}
+use Rattle.std.proofs.lemmas.Slice.{put_mid-paste}
+use Rattle.std.proofs.lemmas.List.Edits.{paste_all}
 use Rattle.writing.specs.Wrote.{Wrote}
 
 -- two runs of stores, the second right after the first, are one
@@ -39,18 +42,21 @@ recast {a} {b} {i} {j} e w = subst (λ (t : List ℕ). Wrote a i t b j) e w
 pub stored : (l : List ℕ) (i v : ℕ) → Wrote l i (v ∷ []) (set l i v) (i + 1)
 stored l i v = record { bytes = refl; end = refl }
 
--- two bytes were
-pub both_stored : (l : List ℕ) (i v w : ℕ) → Wrote l i (v ∷ w ∷ []) (set (set l i v) (i + 1) w) (i + 2)
-both_stored l i v w = record { bytes = ap (λ (k : ℕ). set (set l i v) k w) (add-one i); end = refl }
+-- a text was copied to where it fits
+pub copied : {l ys : List ℕ} {i k : ℕ} (xs : List ℕ) → ys ≡ xs → k ≡ length xs → i + length xs ≤ length l → Wrote l i xs (put_mid i k l ys) (i + length xs)
+copied {l} {ys} {i} {k} xs e n h = record {
+  bytes =
+      put_mid-paste i k l ys xs (length xs) e (sym n) refl
+      ∙ paste_all l i xs (length xs) refl
+      ∙ sym (append_assoc (take i l) xs _)
+      ∙ sym (sets-eq xs l i h);
+  end = refl;
+}
 
 -- the first i bytes of a text, and the next
 pub byte_more : {a b d : List ℕ} {at j k : ℕ} (xs : List ℕ) (i : ℕ) → i < length xs → Wrote a at (take i xs) b j → Wrote b j (get_or xs i 0 ∷ []) d k
     → Wrote a at (take (i + 1) xs) d k
 byte_more xs i h p q = recast (sym (take-suc xs i 0 h) ∙ ap (λ (k : ℕ). take k xs) (sym (add-one i))) (then p q)
-
--- as many bytes as a text has
-pub every_byte : {a b : List ℕ} {at k : ℕ} (xs : List ℕ) (i : ℕ) → i ≡ length xs → Wrote a at (take i xs) b k → Wrote a at xs b k
-every_byte xs i e w = recast (ap (λ (k : ℕ). take k xs) e ∙ take-length xs) w
 
 -- a text that fits, written from the start: the buffer is the text and then what it was
 pub whole : {a b : List ℕ} {k : ℕ} {xs : List ℕ} → Wrote a 0 xs b k → length xs ≤ length a → b ≡ xs ++ drop (length xs) a

@@ -10,8 +10,8 @@ fn put_two(buf: &mut [u8], at: usize, n: u32) -> usize
     requires at_in_bounds { at + 2 ≤ length buf.old }
     ensures { Wrote buf.old at (two_digits n) buf.new result }
 {
-    let tens = 48 + (n / 10) as u8;
-    let ones = 48 + (n % 10) as u8;
+    let tens = b'0' + (n / 10) as u8;
+    let ones = b'0' + (n % 10) as u8;
     buf[at] = tens;
     buf[at + 1] = ones;
     at + 2
@@ -25,7 +25,7 @@ fn put_one_or_two(buf: &mut [u8], at: usize, n: u32) -> usize
     ensures upper_bound { result ≤ at + 2 }
 {
     if n < 10 {
-        let ones = 48 + n as u8;
+        let ones = b'0' + n as u8;
         buf[at] = ones;
         return at + 1;
     }

@@ -1,7 +1,7 @@
 // Writers of text into a lent buffer. Each stores as much as fits and answers the index after its text.
 #![tactic(auto)]
 
-ghost use Rattle.std.specs.Prelude.{◌≡◌, [], ◌∷◌, ◌++◌, ◌+◌, ◌≤◌, length, nat_abs};
+ghost use Rattle.std.specs.Prelude.{◌≡◌, [], ◌∷◌, ◌++◌, ◌+◌, ◌≤◌, length};
 ghost use Rattle.writing.specs.Inner.{place_limit};
 ghost use Rattle.writing.specs.Decimal.{decimal_of, signed_of};
 ghost use Rattle.writing.specs.Wrote.{Wrote};
@@ -12,9 +12,9 @@ mod digits;
 pub mod refused;
 
 // The byte between two numbers.
-pub const BLANK: u8 = 32;
+pub const BLANK: u8 = b' ';
 // The byte that ends a line.
-pub const NEWLINE: u8 = 10;
+pub const NEWLINE: u8 = b'\n';
 
 // One byte.
 pub fn put_byte(buf: &mut [u8], at: usize, b: u8) -> usize
@@ -28,36 +28,19 @@ pub fn put_byte(buf: &mut [u8], at: usize, b: u8) -> usize
     next
 }
 
-// A text that fits.
-fn put_whole(buf: &mut [u8], at: usize, text: &[u8]) -> usize
-    requires { at + length text.now ≤ length buf.old }
-    ensures { Wrote buf.old at text.now buf.new result }
-{
-    let mut next = at;
-    let mut i = 0;
-    while i < text.len() {
-        let b = text[i];
-        buf[next] = b;
-        next += 1;
-        i += 1;
-    }
-    next
-}
-
 // A text.
 pub fn put_text(buf: &mut [u8], at: usize, text: &[u8]) -> usize
     requires { at + length text.now ≤ place_limit }
     ensures { Wrote buf.old at text.now buf.new result }
 {
-    if at + text.len() <= buf.len() {
-        return put_whole(buf, at, text);
+    let end = at + text.len();
+    if end <= buf.len() {
+        buf[at..end].copy_from_slice(text);
+        return end;
     }
     let mut next = at;
-    let mut i = 0;
-    while i < text.len() {
-        let b = text[i];
-        next = put_byte(buf, next, b);
-        i += 1;
+    for b in text {
+        next = put_byte(buf, next, *b);
     }
     next
 }
@@ -69,10 +52,10 @@ fn put_cut(buf: &mut [u8], at: usize, n: u64) -> usize
     ensures upper_bound { result ≤ at + 20 }
 {
     if n < 10 {
-        put_byte(buf, at, 48 + n as u8)
+        put_byte(buf, at, b'0' + n as u8)
     } else {
         let next = put_cut(buf, at, n / 10);
-        put_byte(buf, next, 48 + (n % 10) as u8)
+        put_byte(buf, next, b'0' + (n % 10) as u8)
     }
 }
 
@@ -82,7 +65,7 @@ pub fn put_number(buf: &mut [u8], at: usize, n: u64) -> usize
     ensures wrote { Wrote buf.old at (decimal_of n) buf.new result }
     ensures upper_bound { result ≤ at + 20 }
 {
-    if (n < 100_000_000) & (at + 8 <= buf.len()) {
+    if n < 100_000_000 && at + 8 <= buf.len() {
         return put_short(buf, at, n as u32);
     }
     put_cut(buf, at, n)
@@ -98,26 +81,15 @@ pub fn put_field(buf: &mut [u8], at: usize, label: &[u8], n: u64) -> usize
     put_number(buf, next, n)
 }
 
-// How far a number is from 0.
-fn size(z: i64) -> u64
-    ensures { result ≡ nat_abs z }
-{
-    if z < 0 {
-        (-(z + 1)) as u64 + 1
-    } else {
-        z as u64
-    }
-}
-
 // A signed number in decimal.
 pub fn put_signed(buf: &mut [u8], at: usize, z: i64) -> usize
     requires { at + 21 ≤ place_limit }
     ensures wrote { Wrote buf.old at (signed_of z) buf.new result }
     ensures upper_bound { result ≤ at + 21 }
 {
-    let n = size(z);
+    let n = z.unsigned_abs();
     if z < 0 {
-        let next = put_byte(buf, at, 45);
+        let next = put_byte(buf, at, b'-');
         put_number(buf, next, n)
     } else {
         put_number(buf, at, n)

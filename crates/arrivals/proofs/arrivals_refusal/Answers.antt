@@ -13,8 +13,8 @@ cost_is : (c : Joined-i-lt-TASKS) → c.if-i-lt-TASKS.cost ≡ arrival_cost c.ar
 cost_is c =
     let long : length c.args.plan.lines ≡ tasks_limit = search rules in
     elim c.if-i-lt-TASKS.branch [
-      | then-i-lt-TASKS w ↦ cost_read c.args.plan.lines c.place_of-i.ensures w.cost-is
-      | else-i-lt-TASKS w ↦ cost_none c.args.plan.lines c.place_of-i.ensures long w.if-i-lt-TASKS.false w.cost-is
+      | then-i-lt-TASKS w ↦ cost_read c.args.plan.lines c.saturating_sub-i.ensures w.cost-is
+      | else-i-lt-TASKS w ↦ cost_none c.args.plan.lines c.saturating_sub-i.ensures long w.if-i-lt-TASKS.false w.cost-is
     ]
 
 pub loop-k-init : goal.loop-k-init

@@ -5,9 +5,8 @@ use native.Mathlib.Omega.{arith}
 use lib.ListN.{length, length-set}
 use Rattle.units.specs.Limits.{cores_limit}
 use Rattle.units.specs.Units.{nums}
-use Rattle.units.proofs.Units.{nums_long, nums_at, nums_set}
-use Rattle.assignment.proofs.Steps.{core_low, rows_set, one_next, misfit, one_end}
-use borrow.Author.Rules.{rules}
+use Rattle.units.proofs.Units.{nums_at, nums_set}
+use Rattle.assignment.proofs.Steps.{core_low, rows_set, one_next, misfit}
 use Rattle.assignment.proofs.pass_one.Goals.{After-roomiest-p}
 use Rattle.assignment.proofs.pass_one.Goals as goal
 
@@ -15,15 +14,6 @@ use Rattle.assignment.proofs.pass_one.Goals as goal
 roomiest-low : (c : After-roomiest-p) → c.roomiest-p.result < cores_limit
 roomiest-low c = core_low (nums c.loop-i.left.shares) _ c.loop-i.invariant.0
     c.roomiest-p.ensures
-
-pub loop-i-init : goal.loop-i-init
-loop-i-init c = (search (rules, nums_long), refl)
-
-pub offset_bounds-weights-t : goal.offset_bounds-weights-t
-offset_bounds-weights-t c = omega (arith, c.requires.low c.loop-i.i (omega arith))
-
-pub bounds-weights-t : goal.bounds-weights-t
-bounds-weights-t c = c.requires.low c.loop-i.i (omega arith)
 
 pub offset_bounds-left-p : goal.offset_bounds-left-p
 offset_bounds-left-p c = omega (arith, roomiest-low c)
@@ -46,12 +36,6 @@ offset_bounds-row-p c = omega (arith, roomiest-low (goal.at.offset_bounds-row-p 
 pub bounds-row-p : goal.bounds-row-p
 bounds-row-p c = roomiest-low (goal.at.bounds-row-p c).After-roomiest-p
 
-pub offset_bounds-table-t : goal.offset_bounds-table-t
-offset_bounds-table-t c = omega (arith, c.requires.low c.loop-i.i (omega arith))
-
-pub bounds-table-t : goal.bounds-table-t
-bounds-table-t c = c.requires.low c.loop-i.i (omega arith)
-
 pub offset_bounds-left-p-in-loop-i : goal.offset_bounds-left-p-in-loop-i
 offset_bounds-left-p-in-loop-i c = omega (arith, roomiest-low (goal.at.offset_bounds-left-p-in-loop-i c).After-roomiest-p)
 
@@ -68,8 +52,3 @@ loop-i-preserved c =
           (one_next c.args.order c.requires at.i (nums c.args.weights) _ _ _ _ _ _ at.invariant.0 (omega arith) refl (sym (nums_at c.args.weights _))
           most.ensures (omega arith) (omega arith) ∙ at.invariant.1),
     )
-
-pub returns : goal.returns
-returns c =
-    let at = c.loop-i in
-    sym (one_end c.args.order c.requires at.i (nums c.args.weights) _ _ (omega arith)) ∙ at.invariant.1

@@ -1,5 +1,4 @@
 -- `assignment::pass_one` meets its contract.
-use Prim.Native.Nat.{◌-◌}
 use mathlib.Core.Path.{◌≡◌}
 use lib.ListN.{length}
 use Rattle.units.specs.Limits.{cores_limit}
@@ -13,6 +12,3 @@ invariant-loop-i l =
     (length (nums l.left.shares) ≡ cores_limit)
     × (assign (nums l.weights) (from l.order l.i) (nums l.left.shares) (rows_of l.table)
     ≡ assign (nums l.weights) (from l.order l.initial.i) (nums l.initial.left.shares) (rows_of l.initial.table))
-
-abbrev pub decreases-loop-i : goal.decreases-loop-i
-decreases-loop-i l = l.order.count - l.i

@@ -22,6 +22,3 @@ invariant-loop-i l =
     × (length (nums l.left) ≡ cores_limit)
     × (assign_two l.p (nums l.weights) (from l.order l.i) (drop l.p (nums l.left)) (rows_of l.table)
     ≡ assign_two 0 (nums l.weights) (from l.order l.initial.i) (nums l.initial.left) (rows_of l.initial.table))
-
-abbrev pub decreases-loop-i : goal.decreases-loop-i
-decreases-loop-i l = l.order.count - l.i

@@ -12,25 +12,22 @@ use Rattle.listing.specs.declared.listed.Listed.{Listed}
 use Rattle.listing.proofs.TableFits.{table_length}
 use Rattle.host.specs.Host.{answered}
 use Rattle.host.specs.Inner.{held_of}
-use Rattle.host.proofs.Held.{part_within, part}
+use Rattle.host.proofs.Held.{part}
 use Rattle.host.proofs.Answers.{listed_same, after_same}
 use Rattle.host.proofs.yagomila_listing.Goals as goal
 
-pub slice_bounds-list_table-end : goal.slice_bounds-list_table-end
-slice_bounds-list_table-end c = part_within c.args.table.now c.table_of-held.result c.table_of-held.ensures
-
 pub answer_of-requires : goal.answer_of-requires
 answer_of-requires c =
-    let h : c.list_table-listed.result ≡ table_listed c.args.cores (held_of c.args.table.now) (length c.args.buf.now) =
-    c.list_table-listed.ensures.value
+    let h : c.list_table.result ≡ table_listed c.args.cores (held_of c.args.table.now) (length c.args.buf.now) =
+    c.list_table.ensures.value
     ∙ ap (λ (xs : List ℕ). table_listed c.args.cores xs (length c.args.buf.now))
     (part c.args.table.now c.table_of-held.result c.table_of-held.ensures) in
     omega (arith, ap (λ (x : Listed). x.length) h, table_length c.args.cores (held_of c.args.table.now) (length c.args.buf.now))
 
 pub returns-clause-value : goal.returns-clause-value
 returns-clause-value c =
-    let h : c.list_table-listed.result ≡ table_listed c.args.cores (held_of c.args.table.now) (length c.args.buf.now) =
-    c.list_table-listed.ensures.value
+    let h : c.list_table.result ≡ table_listed c.args.cores (held_of c.args.table.now) (length c.args.buf.now) =
+    c.list_table.ensures.value
     ∙ ap (λ (xs : List ℕ). table_listed c.args.cores xs (length c.args.buf.now))
     (part c.args.table.now c.table_of-held.result c.table_of-held.ensures) in
     to_z-of_z w64 c.answer_of.result (search rules)
@@ -38,6 +35,6 @@ returns-clause-value c =
 
 pub returns-clause-buf_after : goal.returns-clause-buf_after
 returns-clause-buf_after c =
-    c.list_table-listed.ensures.buf_after
+    c.list_table.ensures.buf_after
     ∙ ap (λ (xs : List ℕ). table_after c.args.cores xs c.args.buf.now) (part c.args.table.now c.table_of-held.result c.table_of-held.ensures)
     ∙ after_same c.args.cores c.args.table.now c.args.buf.now

@@ -1,5 +1,4 @@
 -- `instants::scan` meets its contract.
-use Prim.Native.Nat.{◌-◌, ◌≤◌}
 use mathlib.Core.Path.{◌≡◌}
 use lib.ListN.{length}
 use Rattle.units.specs.Limits.{cores_limit}
@@ -10,10 +9,6 @@ use Rattle.instants.proofs.scan.Given as goal
 
 abbrev pub invariant-loop-i : goal.invariant-loop-i
 invariant-loop-i l =
-    (l.i ≤ l.count)
-    × (length l.seen ≡ cores_limit)
+    (length l.seen ≡ cores_limit)
     × (l.seen ≡ seen_of (fronts_in l.fronts) l.had l.time.0 l.i)
     × (l.next ≡ ticks (next_of (fronts_in l.fronts) l.time.0 l.initial.next.0 l.i))
-
-abbrev pub decreases-loop-i : goal.decreases-loop-i
-decreases-loop-i l = l.count - l.i

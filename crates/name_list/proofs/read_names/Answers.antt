@@ -1,25 +1,23 @@
 -- `name_list::read_names` meets its contract.
 use native.Mathlib.Omega.{arith}
-use Rattle.name_list.proofs.Lines.{line_ahead}
+use Rattle.name_list.proofs.Lines.{line_ahead, line_ends}
 use Rattle.name_list.proofs.Tallied.{ahead, none_yet, one_more, said_count, said_unreadable}
 use Rattle.name_list.proofs.read_names.Goals as goal
 
-pub loop-at-init : goal.loop-at-init
-loop-at-init c = none_yet _
-
-pub returns-then-next-eq0 : goal.returns-then-next-eq0
-returns-then-next-eq0 c = said_unreadable _ _ _ c.loop-at.invariant c.loop-at-test.true c.name_end-next.ensures
-    c.if-next-eq0.true
+pub loop-next-init : goal.loop-next-init
+loop-next-init c = none_yet _
 
 pub overflow_add-count : goal.overflow_add-count
-overflow_add-count c = omega (arith, ahead _ _ _ c.loop-at.invariant, c.loop-at-test.true)
+overflow_add-count c = omega (arith, ahead _ _ _ c.loop-next.invariant, line_ahead _ _ c.in-Some.ensures)
 
-pub loop-at-smaller : goal.loop-at-smaller
-loop-at-smaller c = omega (arith, c.loop-at-test.true, line_ahead _ _ c.name_end-next.ensures c.if-next-eq0.false)
+pub loop-next-smaller : goal.loop-next-smaller
+loop-next-smaller c = omega (arith, line_ahead _ _ c.in-Some.ensures, line_ends _ _ c.in-Some.ensures)
 
-pub loop-at-preserved : goal.loop-at-preserved
-loop-at-preserved c = one_more _ _ _ c.loop-at.invariant c.loop-at-test.true c.name_end-next.ensures
-    c.if-next-eq0.false
+pub loop-next-preserved : goal.loop-next-preserved
+loop-next-preserved c = one_more _ _ _ c.loop-next.invariant c.in-Some.ensures
 
-pub returns : goal.returns
-returns c = said_count _ _ _ c.loop-at.invariant c.loop-at-test.false
+pub returns-then-at-names : goal.returns-then-at-names
+returns-then-at-names c = said_unreadable _ _ _ c.loop-next.invariant c.in_default.ensures c.if-at-names.true
+
+pub returns-else-at-names : goal.returns-else-at-names
+returns-else-at-names c = said_count _ _ _ c.loop-next.invariant c.in_default.ensures c.if-at-names.false

@@ -4,8 +4,8 @@ use lib.ListN.{length}
 use Rattle.name_list.proofs.Tallied.{Tallied}
 use Rattle.name_list.proofs.read_names.Given as goal
 
-abbrev pub invariant-loop-at : goal.invariant-loop-at
-invariant-loop-at l = Tallied l.names l.at l.count
+abbrev pub invariant-loop-next : goal.invariant-loop-next
+invariant-loop-next l = Tallied l.names l.at l.count
 
-abbrev pub decreases-loop-at : goal.decreases-loop-at
-decreases-loop-at l = length l.names - l.at
+abbrev pub decreases-loop-next : goal.decreases-loop-next
+decreases-loop-next l = length l.names - l.at

@@ -1,38 +1,26 @@
 -- `planning::rooms_of` meets its contract.
-use lib.ListN.{set}
-use mathlib.Core.List.{List}
-use Rattle.planning.proofs.Filling.{rooms_more}
-use Rattle.assignment.specs.Passes.{rooms}
-use Rattle.units.proofs.Units.{nums_set}
+use Prim.Native.Nat.{◌-◌}
+use mathlib.Core.Path.{◌≡◌, refl}
+use mathlib.Core.List.{List, map-append}
 use native.Mathlib.Omega.{arith}
-use Prim.Native.Nat.{ℕ}
-use mathlib.Core.Path.{◌≡◌, refl, ap, ◌∙◌}
+use lib.ListN.{length, take, replicate}
+use Rattle.std.proofs.lemmas.List.{drop-replicate, length-take-le}
+use Rattle.units.specs.Limits.{cores_limit}
+use Rattle.units.specs.Units.{share}
+use Rattle.units.specs.declared.share.Share.{Share}
+use Rattle.units.proofs.Units.{nums_replicate}
 use Rattle.planning.proofs.rooms_of.Goals as goal
-
-pub loop-p-init : goal.loop-p-init
-loop-p-init c = (omega arith, refl)
-
-pub offset_bounds-room-p : goal.offset_bounds-room-p
-offset_bounds-room-p c = omega arith
-
-pub bounds-room-p : goal.bounds-room-p
-bounds-room-p c = omega arith
-
-pub overflow_add-p : goal.overflow_add-p
-overflow_add-p c = omega arith
-
-pub loop-p-smaller : goal.loop-p-smaller
-loop-p-smaller c = omega arith
-
-pub loop-p-preserved : goal.loop-p-preserved
-loop-p-preserved c =
-    let l = c.loop-p in (
-      omega arith,
-      nums_set l.room l.p (record { 0 = c.args.common }) ∙ ap (λ (xs : List ℕ). set xs l.p c.args.common) l.invariant.1
-          ∙ rooms_more c.args.common l.p (omega (arith, c.requires)),
-    )
 
 pub returns : goal.returns
 returns c =
-    let e : c.loop-p.p ≡ c.args.cores = omega arith in
-    c.loop-p.invariant.1 ∙ ap (λ (p : ℕ). rooms p c.args.common) e
+    let m = c.args.cores in
+    let blank : List Share = replicate cores_limit (share 0) in
+    let long : length (take m blank) ≡ m = length-take-le m blank (omega arith) in
+    rw (
+      c.fill.ensures.after (λ y e. e),
+      long,
+      drop-replicate m cores_limit (share 0),
+      map-append,
+      nums_replicate m c.args.common,
+      nums_replicate (cores_limit - m) 0,
+    ) refl

@@ -8,14 +8,14 @@ pub returns-then-refusal-ne0 : goal.returns-then-refusal-ne0
 returns-then-refusal-ne0 c =
     due (table_refused _ _ _ _ _ c.plan_of-planned.ensures c.if-refusal-ne0.true) c.put_refusal_within.ensures refl
 
-pub returns-then-stop-gt-CLOCK : goal.returns-then-stop-gt-CLOCK
-returns-then-stop-gt-CLOCK c =
-    due (stop_above _ _ _ _ _ c.plan_of-planned.ensures c.if-refusal-ne0.false c.if-stop-gt-CLOCK.true) c.put_refusal_within-then-stop-gt-CLOCK.ensures refl
+pub returns-then-day-gt-CLOCK : goal.returns-then-day-gt-CLOCK
+returns-then-day-gt-CLOCK c =
+    due (stop_above _ _ _ _ _ c.plan_of-planned.ensures c.if-refusal-ne0.false c.if-day-gt-CLOCK.true) c.put_refusal_within-then-day-gt-CLOCK.ensures refl
 
 pub put_tested-requires : goal.put_tested-requires
 put_tested-requires c =
-    stoppable _ _ _ c.plan_of-planned.ensures c.if-refusal-ne0.false c.if-stop-gt-CLOCK.false
+    stoppable _ _ _ c.plan_of-planned.ensures c.if-refusal-ne0.false c.if-day-gt-CLOCK.false
 
 pub returns : goal.returns
 returns c =
-    recast (stop_within _ _ _ _ _ c.plan_of-planned.ensures c.if-refusal-ne0.false c.if-stop-gt-CLOCK.false) c.put_tested.ensures
+    recast (stop_within _ _ _ _ _ c.plan_of-planned.ensures c.if-refusal-ne0.false c.if-day-gt-CLOCK.false) c.put_tested.ensures

@@ -8,9 +8,9 @@ pub returns-then-refusal-ne0 : goal.returns-then-refusal-ne0
 returns-then-refusal-ne0 c =
     due (arrival_refused _ _ _ _ c.arrivals_refusal-refusal.ensures c.if-refusal-ne0.true) c.put_refusal_within.ensures refl
 
-pub returns-then-more : goal.returns-then-more
-returns-then-more c =
-    due (line_left _ _ _ _ c.arrivals_refusal-refusal.ensures c.if-refusal-ne0.false c.if-more.true) c.put_refusal_within-then-more.ensures refl
+pub returns-then-day : goal.returns-then-day
+returns-then-day c =
+    due (line_left _ _ _ _ c.arrivals_refusal-refusal.ensures c.if-refusal-ne0.false c.if-day.true) c.put_refusal_within-then-day.ensures refl
 
 pub write_day-requires : goal.write_day-requires
 write_day-requires c =
@@ -18,4 +18,4 @@ write_day-requires c =
 
 pub returns : goal.returns
 returns c =
-    recast (day_follows _ _ _ _ c.arrivals_refusal-refusal.ensures c.if-refusal-ne0.false c.if-more.false) c.write_day.ensures.windowed
+    recast (day_follows _ _ _ _ c.arrivals_refusal-refusal.ensures c.if-refusal-ne0.false c.if-day.false) c.write_day.ensures.windowed

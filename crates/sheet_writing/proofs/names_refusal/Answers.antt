@@ -1,19 +1,20 @@
 -- `sheet_writing::names_refusal` meets its contract.
-use mathlib.Core.Path.{sym, ◌∙◌}
-use Rattle.sheet_writing.proofs.Refused.{no_names, wrong_count, name_again_lem, names_fine}
+use Rattle.std.specs.declared.option.Option.TheVariants.{Some}
+use mathlib.Core.Path.{◌≡◌, sym, ◌∙◌}
+use Rattle.name_list.specs.Names.{names_said}
+use Rattle.sheet_writing.proofs.Refused.{same_some, other_some, no_names, name_again_lem, names_fine}
+use Rattle.sheet_writing.proofs.names_refusal.Goals.{Else-ne}
 use Rattle.sheet_writing.proofs.names_refusal.Goals as goal
 
-pub returns-then-count-tasks : goal.returns-then-count-tasks
-returns-then-count-tasks c =
-    wrong_count _ _ (sym c.in-Count.ensures) c.if-count-tasks.true
+-- there is a name for each task
+enough : (c : Else-ne) → names_said c.args.names.now ≡ Some c.args.tasks
+enough c = sym c.read_names.ensures ∙ same_some _ _ c.if-ne.ensures
+
+pub returns-then-ne : goal.returns-then-ne
+returns-then-ne c = no_names _ _ (λ e. other_some _ _ c.if-ne.ensures (c.read_names.ensures ∙ e))
 
 pub returns-then-name_twice : goal.returns-then-name_twice
-returns-then-name_twice c =
-    name_again_lem _ _ (sym c.in-Count.ensures) c.if-count-tasks.false (sym c.name_twice.ensures ∙ c.if-name_twice.true)
-
-pub returns-in-Unreadable : goal.returns-in-Unreadable
-returns-in-Unreadable c = no_names _ _ (sym c.in-Unreadable.ensures)
+returns-then-name_twice c = name_again_lem _ _ (enough (goal.at.returns-then-name_twice c).Else-ne) (sym c.if-name_twice.ensures)
 
 pub returns-else-name_twice : goal.returns-else-name_twice
-returns-else-name_twice c =
-    names_fine _ _ (sym c.in-Count.ensures) c.if-count-tasks.false (sym c.name_twice.ensures ∙ c.if-name_twice.false)
+returns-else-name_twice c = names_fine _ _ (enough (goal.at.returns-else-name_twice c).Else-ne) (sym c.if-name_twice.ensures)

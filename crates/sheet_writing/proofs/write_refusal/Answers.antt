@@ -14,4 +14,4 @@ returns-then-no-ne0 c =
 
 pub returns : goal.returns
 returns c =
-    planning _ _ _ _ (sym c.tick_in.ensures ∙ c.if-not-tick_in.false) c.names_refusal-no.ensures c.if-no-ne0.false c.admit-admitted.ensures
+    planning _ _ _ _ (sym c.tick_in.ensures ∙ c.if-not-tick_in.false) c.names_refusal-no.ensures c.if-no-ne0.false c.admit.ensures

@@ -1,25 +1,20 @@
 -- `table_text::first_unreadable` meets its contract.
-use mathlib.Core.Path.{sym, ap}
 use native.Mathlib.Omega.{arith}
+use borrow.Author.Rules.{rules}
+use Rattle.std.specs.Prelude.{◌≡◌, Some}
+use Rattle.std.specs.Option.{unwrap_or}
 use Rattle.scanning.specs.Lines.{pair_end}
-use Rattle.scanning.proofs.Sought.{first, later, here, ended}
-use Rattle.table_text.proofs.Tables.{task_kept}
+use Rattle.scanning.proofs.Fields.{pair_place, pair_ahead}
+use Rattle.table_text.specs.Text.{task_line, task_end}
 use Rattle.table_text.proofs.first_unreadable.Goals as goal
 
-pub loop-at-init : goal.loop-at-init
-loop-at-init c = first _ _ _ _
-
-pub returns-in-NoPair : goal.returns-in-NoPair
-unfolding pair_end
-returns-in-NoPair c =
-    let l = c.loop-at in
-    sym (here _ _ _ _ _ _ l.invariant c.loop-at-test.true (ap pair_end (sym c.in-NoPair.ensures)))
-
-pub loop-at-preserved : goal.loop-at-preserved
-unfolding pair_end
-loop-at-preserved c =
-    let e = sym c.in-Two.ensures in
-    later _ _ _ _ _ _ c.loop-at.invariant c.loop-at-test.true (ap pair_end e) (omega (arith, (task_kept _ _ _ _ _ e).2))
+pub first_unreadable-requires-clause-ahead : goal.first_unreadable-requires-clause-ahead
+unfolding pair_place
+first_unreadable-requires-clause-ahead c =
+    λ at after p. (let e : Some after ≡ pair_place (task_line c.args.text.now at) = search rules in pair_ahead _ _ _ _ (omega arith) e)
 
 pub returns : goal.returns
-returns c = sym (ended _ _ _ _ _ _ c.loop-at.invariant c.loop-at-test.false)
+unfolding pair_end
+returns c =
+    let s = c.args.text.now in
+    (c.first_unreadable.ensures (task_end s) (λ at r p. (let e : unwrap_or r 0 ≡ task_end s at = search rules in e))).1 (omega arith)

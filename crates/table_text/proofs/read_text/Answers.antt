@@ -18,15 +18,15 @@ returns-then-n-eq0 c =
 
 pub overflow_cast-cores : goal.overflow_cast-cores
 overflow_cast-cores c =
-    omega (arith, (field_kept _ _ _ _ _ _ (search rules) (sym c.in-Value.ensures)).0)
+    omega (arith, (field_kept _ _ _ _ _ _ (search rules) (sym c.in-Some.ensures)).0)
 
-pub returns-in-NoNumber : goal.returns-in-NoNumber
-returns-in-NoNumber c =
-    let w = gives_line 1 c.args.table.now (text_first c.args.text.now c.if-n-gt-BYTES.false c.if-n-eq0.false (sym c.in-NoNumber.ensures)) in
+pub returns-in_default : goal.returns-in_default
+returns-in_default c =
+    let w = gives_line 1 c.args.table.now (text_first c.args.text.now c.if-n-gt-BYTES.false c.if-n-eq0.false (sym c.in_default.ensures)) in
     record { value = w.0; table_after = w.1 }
 
-pub returns-in-Value : goal.returns-in-Value
-returns-in-Value c =
+pub returns : goal.returns
+returns c =
     let t = c.read_table.ensures in
-    let w = gives_same c.args.table.now (text_table c.args.text.now c.if-n-gt-BYTES.false c.if-n-eq0.false (sym c.in-Value.ensures)) (t.value, t.table_after) in
+    let w = gives_same c.args.table.now (text_table c.args.text.now c.if-n-gt-BYTES.false c.if-n-eq0.false (sym c.in-Some.ensures)) (t.value, t.table_after) in
     record { value = w.0; table_after = w.1 }

@@ -1,5 +1,5 @@
 -- `turn::turn_of` meets its contract.
-use mathlib.Core.Path.{◌≡◌, refl, sym, ap, ◌∙◌}
+use mathlib.Core.Path.{◌≡◌, sym, ap, ◌∙◌}
 use native.Mathlib.Numerals.{add-one}
 use native.Mathlib.Omega.{arith}
 use Rattle.units.specs.Limits.{cores_limit}
@@ -19,26 +19,21 @@ unfolding core_of
 core_is c =
     let a = c.args in
     let at = c.loop-j in
-    ap (λ (b : Best). b.core) (sym (search_end a.weight.0 a.place at.j at.best (nums a.shares) a.counts (omega arith)) ∙ at.invariant.3)
-
-pub loop-j-init : goal.loop-j-init
-loop-j-init c = (omega arith, nums_long c.args.shares cores_limit (omega arith), omega arith, refl)
+    let long = nums_long a.shares cores_limit (omega arith) in
+    ap (λ (b : Best). b.core) (sym (search_end a.weight.0 a.place at.j at.best (nums a.shares) a.counts (omega arith)) ∙ at.invariant)
 
 pub loop-j-preserved : goal.loop-j-preserved
 loop-j-preserved c =
     let a = c.args in
-    let at = c.loop-j in (
-      omega arith,
-      at.invariant.1,
-      at.invariant.2,
-      rw (c.better_core-best.ensures, ← (nums_at a.shares at.j), add-one at.j)
-          (sym (search_next a.weight.0 a.place at.j at.best (nums a.shares) a.counts (omega arith) (omega arith)) ∙ at.invariant.3),
-    )
+    let at = c.loop-j in
+    let long = nums_long a.shares cores_limit (omega arith) in
+    rw (c.better_core-best.ensures, ← (nums_at a.shares at.j), add-one at.j)
+    (sym (search_next a.weight.0 a.place at.j at.best (nums a.shares) a.counts (omega arith) (omega arith)) ∙ at.invariant)
 
 pub counted-requires : goal.counted-requires
 counted-requires c =
     let a = c.args in
-    let f = turn_choice a.weight.0 a.place (nums a.shares) a.counts c.requires c.loop-j.invariant.1 c.loop-j.invariant.2 in
+    let f = turn_choice a.weight.0 a.place (nums a.shares) a.counts c.requires (nums_long a.shares cores_limit (omega arith)) (omega arith) in
     let e = core_is c in
     (omega arith, omega (arith, f.2.within), c.requires.below, c.requires.counts)
 

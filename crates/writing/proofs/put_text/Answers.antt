@@ -1,33 +1,10 @@
--- `writing::put_text` meets its contract: all of the text, or its first i bytes in a loop.
-use borrow.Author.Rules.{rules}
+-- `writing::put_text` meets its contract: all of the text at once, or byte by byte.
 use native.Mathlib.Omega.{arith}
-use mathlib.Core.Path.{◌∙◌}
-use lib.Seq.{length-take-le}
-use Rattle.writing.proofs.Wrote.{none, byte_more, every_byte}
+use Rattle.writing.proofs.Wrote.{copied, byte_more}
 use Rattle.writing.proofs.put_text.Goals as goal
 
-pub returns-then-at-text : goal.returns-then-at-text
-returns-then-at-text c = c.put_whole.ensures
+pub returns-then-end-buf : goal.returns-then-end-buf
+returns-then-end-buf c = copied c.args.text.now c.copy_from_slice.ensures.after (omega arith) c.if-end-buf.true
 
-pub loop-i-init : goal.loop-i-init
-loop-i-init c = (search rules, none _ _, search rules)
-
-pub put_byte-next-requires : goal.put_byte-next-requires
-put_byte-next-requires c =
-    let l = c.loop-i in
-    let w = c.args.text.now in
-    omega (arith, l.invariant.1.end, length-take-le l.i w l.invariant.0)
-
-pub loop-i-preserved : goal.loop-i-preserved
-loop-i-preserved c =
-    let l = c.loop-i in
-    let w = c.args.text.now in (
-      search rules,
-      byte_more w l.i c.loop-i-test.true l.invariant.1 c.put_byte-next.ensures,
-      c.put_byte-next.auto.buf ∙ l.invariant.2,
-    )
-
-pub returns : goal.returns
-returns c =
-    let l = c.loop-i in
-    every_byte c.args.text.now l.i (omega arith) l.invariant.1
+pub loop-b-preserved : goal.loop-b-preserved
+loop-b-preserved c = byte_more c.args.text.now _ c.loop-b-test.true c.loop-b.invariant c.put_byte-next.ensures

@@ -63,9 +63,7 @@ loop-y-init c =
     start c.args.a c.args.b (pos_of_ne-zero c.if-a-eq0.false) (pos_of_ne-zero c.if-b-eq0.false)
 
 pub overflow_add-twos : goal.overflow_add-twos
-overflow_add-twos c =
-    let t : c.loop-y.twos < 32 = few c.loop-y.invariant (omega arith) in
-    omega arith
+overflow_add-twos c = omega (arith, few c.loop-y.invariant (omega arith))
 
 pub loop-y-smaller-then-x-eq0 : goal.loop-y-smaller-then-x-eq0
 loop-y-smaller-then-x-eq0 c = both_fewer c.loop-y.invariant
@@ -78,9 +76,6 @@ loop-y-smaller c = one_fewer c.loop-y.invariant
 
 pub loop-y-preserved : goal.loop-y-preserved
 loop-y-preserved c = one c.loop-y.invariant (omega (arith, c.if-x-eq0.false)) c.loop-y-test.true
-
-pub odd_gcd-requires : goal.odd_gcd-requires
-odd_gcd-requires c = omega (arith, c.loop-y-test.false)
 
 pub overflow_shl-result : goal.overflow_shl-result
 overflow_shl-result c = few c.loop-y.invariant (omega arith)

@@ -19,9 +19,6 @@ nonzero_div-result c =
     let b = c.args.b in
     omega (arith, c.gcd-g.ensures, gcd_pos b (a % b) (pos_of_ne-zero c.if-b-eq0.false))
 
-pub overflow_cast-result-2 : goal.overflow_cast-result-2
-overflow_cast-result-2 c = omega (arith, div-le_self c.args.a c.gcd-g.result)
-
 pub overflow_mul-result : goal.overflow_mul-result
 overflow_mul-result c =
     let a = c.args.a in
@@ -32,7 +29,4 @@ overflow_mul-result c =
     omega (arith, mul-le-mul q r)
 
 pub returns : goal.returns
-returns c =
-    let a = c.args.a in
-    let b = c.args.b in
-    rw (lcm_step a b (pos_of_ne-zero c.if-b-eq0.false), c.gcd-g.ensures)
+returns c = rw (lcm_step c.args.a c.args.b (pos_of_ne-zero c.if-b-eq0.false), c.gcd-g.ensures)

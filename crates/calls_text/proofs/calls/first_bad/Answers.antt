@@ -1,23 +1,20 @@
 -- `calls_text::calls::first_bad` meets its contract.
-use mathlib.Core.Path.{sym, ap, ◌∙◌}
-use native.Mathlib.Omega.{arith}
-use Rattle.scanning.proofs.Sought.{first, later, here, ended}
-use Rattle.calls_text.specs.Line.{line_after}
-use Rattle.calls_text.proofs.Lines.{ahead}
+use borrow.Author.Rules.{rules}
+use mathlib.Core.Path.{◌∙◌}
+use Rattle.std.specs.Prelude.{◌≡◌, ℕ, Some}
+use Rattle.std.specs.Option.{unwrap_or}
+use Rattle.calls_text.specs.Line.{call_line, line_after}
+use Rattle.calls_text.proofs.Lines.{call_place, call_ahead}
 use Rattle.calls_text.proofs.calls.first_bad.Goals as goal
 
-pub loop-at-init : goal.loop-at-init
-loop-at-init c = first _ _ _ _
-
-pub returns-then-next-eq0 : goal.returns-then-next-eq0
-returns-then-next-eq0 c =
-    let e = ap line_after (sym c.read_call.ensures) ∙ sym c.line_after-next.ensures in
-    sym (here _ _ _ _ _ _ c.loop-at.invariant c.loop-at-test.true (e ∙ c.if-next-eq0.true))
-
-pub loop-at-preserved : goal.loop-at-preserved
-loop-at-preserved c =
-    let e = ap line_after (sym c.read_call.ensures) ∙ sym c.line_after-next.ensures in
-    later _ _ _ _ _ _ c.loop-at.invariant c.loop-at-test.true e (omega (arith, ahead _ _ e c.if-next-eq0.false))
+pub first_unreadable-requires-clause-ahead : goal.first_unreadable-requires-clause-ahead
+unfolding call_place
+first_unreadable-requires-clause-ahead c =
+    λ at after p. (let e : Some after ≡ call_place (call_line c.args.text.now at) = search rules in call_ahead _ _ _ e)
 
 pub returns : goal.returns
-returns c = sym (ended _ _ _ _ _ _ c.loop-at.invariant c.loop-at-test.false)
+unfolding line_after
+returns c =
+    let s = c.args.text.now in
+    let n = λ (at : ℕ). line_after (call_line s at) in
+    c.unwrap_or.ensures ∙ (c.first_unreadable.ensures n (λ at r p. (let e : unwrap_or r 0 ≡ n at = search rules in e))).0

@@ -6,4 +6,4 @@ use Rattle.core_choice.proofs.Best.told.Goals as goal
 
 pub returns : goal.returns
 returns c =
-    best_told c.args.self (get_or c.args.state.deadlines 0 (ticks 0)) c.requires c.kind_of-kind.ensures
+    best_told c.args.self (get_or c.args.state.deadlines 0 (ticks 0)) c.requires c.kind_of.ensures

@@ -1,18 +1,18 @@
 -- `day_text::line::stop_place` meets its contract.
-use mathlib.Core.Path.{sym, ◌∙◌}
-use Rattle.day_text.proofs.Places.{first, found, passed, none}
+use mathlib.Core.Path.{refl, ◌∙◌}
+use lib.ListN.{length}
+use native.Mathlib.Omega.{arith}
+use borrow.Author.Rules.{rules}
+use Rattle.std.proofs.lemmas.Iterator.{YieldsList-from_range}
+use Rattle.std.proofs.lemmas.Iterator.Search.{find_from_yields_List}
+use Rattle.day_text.specs.Line.{stop_here, stop_place}
+use Rattle.line_place.proofs.Places.{first_found}
 use Rattle.day_text.proofs.line.stop_place.Goals as goal
 
-pub loop-at-init : goal.loop-at-init
-loop-at-init c = first _
-
-pub returns-then-stop_here-clause-value : goal.returns-then-stop_here-clause-value
-returns-then-stop_here-clause-value c =
-    found _ _ c.loop-at.invariant c.loop-at-test.true (sym c.stop_here.ensures ∙ c.if-stop_here.true)
-
-pub loop-at-preserved : goal.loop-at-preserved
-loop-at-preserved c =
-    passed _ _ c.loop-at.invariant c.loop-at-test.true (sym c.stop_here.ensures ∙ c.if-stop_here.false)
-
-pub returns : goal.returns
-returns c = record { value = none _ _ c.loop-at.invariant c.loop-at-test.false; upper_bound = c.loop-at.invariant.within }
+pub returns-clause-value : goal.returns-clause-value
+unfolding stop_place
+returns-clause-value c =
+    let s = c.args.text.now in
+    c.unwrap_or.ensures
+    ∙ first_found (stop_here s) (length s) _ (find_from_yields_List (stop_here s) _ _ _ c.find.ensures.ran
+    (YieldsList-from_range 0 (length s) (length s) refl (omega arith)) (λ x b q h. search rules))

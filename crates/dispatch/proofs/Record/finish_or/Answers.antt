@@ -36,11 +36,11 @@ same s = let f : SFits w64 s.args.late = search rules in to_z-of_z w64 s.args.la
 pub overflow_sub-i : goal.overflow_sub-i
 overflow_sub-i c = omega (arith, (known c).from)
 
-pub offset_bounds-lines-i : goal.offset_bounds-lines-i
-offset_bounds-lines-i c = omega (arith, (known (goal.at.offset_bounds-lines-i c).Then-no-eq0).below)
+pub offset_bounds-self-i-then-no-eq0 : goal.offset_bounds-self-i-then-no-eq0
+offset_bounds-self-i-then-no-eq0 c = omega (arith, (known (goal.at.offset_bounds-self-i-then-no-eq0 c).Then-no-eq0).below)
 
-pub bounds-lines-i : goal.bounds-lines-i
-bounds-lines-i c = omega (arith, (known (goal.at.bounds-lines-i c).Then-no-eq0).below)
+pub bounds-self-i-then-no-eq0 : goal.bounds-self-i-then-no-eq0
+bounds-self-i-then-no-eq0 c = omega (arith, (known (goal.at.bounds-self-i-then-no-eq0 c).Then-no-eq0).below)
 
 pub offset_bounds-self-i : goal.offset_bounds-self-i
 offset_bounds-self-i c = omega (arith, (known (goal.at.offset_bounds-self-i c).Then-no-eq0).below)
@@ -66,8 +66,8 @@ overflow_cast-by-then-no-eq0-2 c = pos_fits _ (known (goal.at.overflow_cast-by-t
 pub overflow_sub-by : goal.overflow_sub-by
 overflow_sub-by c = let k = (known (goal.at.overflow_sub-by c).Then-no-eq0) in sub_fits _ _ k.time_fits k.due_fits
 
-pub without_run-after-requires : goal.without_run-after-requires
-without_run-after-requires c = (known (goal.at.without_run-after-requires c).Then-no-eq0).can_finish (sym c.finish_tests-no.ensures ∙ c.if-no-eq0-2.true)
+pub without_run-requires : goal.without_run-requires
+without_run-requires c = (known (goal.at.without_run-requires c).Then-no-eq0).can_finish (sym c.finish_tests-no.ensures ∙ c.if-no-eq0-2.true)
 
 pub returns-then-no-eq0-2 : goal.returns-then-no-eq0-2
 returns-then-no-eq0-2 c =
@@ -75,7 +75,7 @@ returns-then-no-eq0-2 c =
     let k = known (goal.at.returns-then-no-eq0-2 c).Then-no-eq0 in
     let own = c.finish_tests-no.ensures ∙ sym k.finish_number in
     let late = sub_is _ _ k.time_fits k.due_fits in
-    sym (finish_or_taken s.self s.task s.time.0 s.late own c.if-no-eq0-2.true late c.without_run-after.ensures)
+    sym (finish_or_taken s.self s.task s.time.0 s.late own c.if-no-eq0-2.true late c.without_run.ensures)
 
 pub returns-else-no-eq0-2 : goal.returns-else-no-eq0-2
 returns-else-no-eq0-2 c =

@@ -10,6 +10,6 @@ pub returns : goal.returns
 unfolding fresh_of
 returns c =
     let s = c.args in
-    let a = c.plan_of-answer in
-    ap₂ (λ (x : Refusal) (r : Record). record { refusal = x; next = r }) (ap (λ (p : Planned). p.refusal) a.ensures) (c.of-next.ensures
+    let a = c.plan_of-planned in
+    ap₂ (λ (x : Refusal) (r : Record). record { refusal = x; next = r }) (ap (λ (p : Planned). p.refusal) a.ensures) (c.of.ensures
     ∙ ap (λ (p : Planned). record_of p.plan) a.ensures)

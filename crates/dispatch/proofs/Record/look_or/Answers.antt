@@ -34,7 +34,7 @@ found : (c : After-loop-i) → CoreCall c.args.self c.args.core c.args.time.0
     → let s = c.args in c.loop-i.best ≡ best_of (at_time s.self s.time.0) s.core tasks_limit
 found c k =
     let e : c.loop-i.i ≡ c.args.self.plan.count = omega arith in
-    (rw e at c.loop-i.invariant.1) ∙ sym k.all
+    (rw e at c.loop-i.invariant) ∙ sym k.all
 
 -- is one of them
 found_below : (c : After-loop-i) → CoreCall c.args.self c.args.core c.args.time.0 → c.loop-i.best.task ≤ tasks_limit
@@ -42,7 +42,7 @@ found_below c k = let s = c.args in best_task (at_time s.self s.time.0) s.core (
 
 pub loop-i-init : goal.loop-i-init
 unfolding best_of
-loop-i-init c = (omega arith, refl)
+loop-i-init c = refl
 
 pub offset_bounds-lines-i : goal.offset_bounds-lines-i
 offset_bounds-lines-i c = omega (arith, (known (goal.at.offset_bounds-lines-i c).Then-no-eq0).tasks)
@@ -56,9 +56,6 @@ offset_bounds-states-i c = omega (arith, (known (goal.at.offset_bounds-states-i 
 pub bounds-states-i : goal.bounds-states-i
 bounds-states-i c = omega (arith, (known (goal.at.bounds-states-i c).Then-no-eq0).tasks)
 
-pub overflow_add-i : goal.overflow_add-i
-overflow_add-i c = omega (arith, (known (goal.at.overflow_add-i c).Then-no-eq0).tasks)
-
 pub better_task-best-requires : goal.better_task-best-requires
 better_task-best-requires c =
     let k = (known (goal.at.better_task-best-requires c).Then-no-eq0) in
@@ -67,13 +64,13 @@ better_task-best-requires c =
 pub loop-i-preserved : goal.loop-i-preserved
 loop-i-preserved c =
     let s = c.args in
-    (omega arith, best_more (at_time s.self s.time.0) s.core c.loop-i.i c.loop-i.invariant.1 c.better_task-best.ensures)
+    best_more (at_time s.self s.time.0) s.core c.loop-i.i c.loop-i.invariant c.better_task-best.ensures
 
-pub offset_bounds-states-at : goal.offset_bounds-states-at
-offset_bounds-states-at c = let p = goal.at.offset_bounds-states-at c in omega (arith, found_below p.After-loop-i (known p.Then-no-eq0))
+pub offset_bounds-states-best : goal.offset_bounds-states-best
+offset_bounds-states-best c = let p = goal.at.offset_bounds-states-best c in omega (arith, found_below p.After-loop-i (known p.Then-no-eq0))
 
-pub bounds-states-at : goal.bounds-states-at
-bounds-states-at c = let p = goal.at.bounds-states-at c in omega (arith, found_below p.After-loop-i (known p.Then-no-eq0), c.if-best-gt0.true)
+pub bounds-states-best : goal.bounds-states-best
+bounds-states-best c = let p = goal.at.bounds-states-best c in omega (arith, found_below p.After-loop-i (known p.Then-no-eq0), c.if-best-gt0.true)
 
 pub returns-after-best-gt0 : goal.returns-after-best-gt0
 returns-after-best-gt0 c =

@@ -44,11 +44,11 @@ release_told r i time core deadline q e w = sym (release_or_taken r i time.0 cor
 pub overflow_sub-i : goal.overflow_sub-i
 overflow_sub-i c = omega (arith, (known c).from)
 
-pub offset_bounds-lines-i : goal.offset_bounds-lines-i
-offset_bounds-lines-i c = omega (arith, (known (goal.at.offset_bounds-lines-i c).Then-no-eq0).below)
+pub offset_bounds-self-i-then-no-eq0 : goal.offset_bounds-self-i-then-no-eq0
+offset_bounds-self-i-then-no-eq0 c = omega (arith, (known (goal.at.offset_bounds-self-i-then-no-eq0 c).Then-no-eq0).below)
 
-pub bounds-lines-i : goal.bounds-lines-i
-bounds-lines-i c = omega (arith, (known (goal.at.bounds-lines-i c).Then-no-eq0).below)
+pub bounds-self-i-then-no-eq0 : goal.bounds-self-i-then-no-eq0
+bounds-self-i-then-no-eq0 c = omega (arith, (known (goal.at.bounds-self-i-then-no-eq0 c).Then-no-eq0).below)
 
 pub offset_bounds-self-i : goal.offset_bounds-self-i
 offset_bounds-self-i c = omega (arith, (known (goal.at.offset_bounds-self-i c).Then-no-eq0).below)

@@ -1,14 +1,9 @@
 -- `dispatch::sound::states_sound` meets its contract.
 use Rattle.dispatch.specs.Sound.{state_ok}
 use Rattle.lists.specs.Below.{all_below}
-use Rattle.units.specs.Limits.{tasks_limit}
 use mathlib.Core.Bool.{true}
 use mathlib.Core.Path.{◌≡◌}
-use Prim.Native.Nat.{◌-◌, ◌≤◌}
 use Rattle.dispatch.proofs.sound.states_sound.Given as goal
 
 abbrev pub invariant-loop-i : goal.invariant-loop-i
-invariant-loop-i l = (l.i ≤ tasks_limit) × (all_below l.i (state_ok l.plan l.states) ≡ true)
-
-abbrev pub decreases-loop-i : goal.decreases-loop-i
-decreases-loop-i l = tasks_limit - l.i
+invariant-loop-i l = all_below l.i (state_ok l.plan l.states) ≡ true

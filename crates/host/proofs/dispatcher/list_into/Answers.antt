@@ -22,10 +22,10 @@ shaped s =
     let l : length pl.lines ≡ tasks_limit = search rules in
     record { lines = l; shares = λ i h. wide pl.lines _ s.well_formed.0.1.1.0.1.1.1.1.1.0.1.1 i (omega (arith, l)) }
 
-pub overflow_cast-written : goal.overflow_cast-written
-overflow_cast-written c =
+pub overflow_cast-len : goal.overflow_cast-len
+overflow_cast-len c =
     let short : c.list-listed.result.length ≤ listing_limit =
-    rw c.list-listed.ensures.value (listed_length c.args.held (length c.args.buf.now) (shaped (goal.at.overflow_cast-written c).Start)) in
+    rw c.list-listed.ensures.value (listed_length c.args.held (length c.args.buf.now) (shaped (goal.at.overflow_cast-len c).Start)) in
     record { sfits = omega (arith, short) }
 
 pub returns-then-refused-eq0 : goal.returns-then-refused-eq0

@@ -2,12 +2,9 @@
 use mathlib.Core.Path.{ap, ◌∙◌}
 use Rattle.dispatch.specs.Record.{fresh_of}
 use Rattle.host.specs.declared.dispatcher.LentStart.{LentStart}
-use Rattle.host.proofs.Held.{part_within, part}
+use Rattle.host.proofs.Held.{part}
 use Rattle.host.proofs.Started.{start_taken, start_refused}
 use Rattle.host.proofs.dispatcher.start.Goals as goal
-
-pub slice_bounds-fresh-end : goal.slice_bounds-fresh-end
-slice_bounds-fresh-end c = part_within c.args.table.now c.table_of-read.result c.table_of-read.ensures
 
 pub returns-then-refusal-eq0 : goal.returns-then-refusal-eq0
 returns-then-refusal-eq0 c =

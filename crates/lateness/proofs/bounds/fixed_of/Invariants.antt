@@ -1,5 +1,4 @@
 -- `lateness::bounds::fixed_of` meets its contract: the bounds of the first p cores are known, and past the last core there is no mover.
-use Prim.Native.Nat.{◌-◌}
 use Rattle.lists.proofs.Filled.{Stored}
 use Rattle.units.specs.Limits.{cores_limit}
 use Rattle.lateness.specs.Lateness.{fixed_late}
@@ -7,6 +6,3 @@ use Rattle.lateness.proofs.bounds.fixed_of.Given as goal
 
 abbrev pub invariant-loop-p : goal.invariant-loop-p
 invariant-loop-p l = Stored 0 cores_limit (fixed_late l.plan.common l.reaches l.plan.lines) l.initial.bounds 0 l.p l.bounds
-
-abbrev pub decreases-loop-p : goal.decreases-loop-p
-decreases-loop-p l = cores_limit - l.p

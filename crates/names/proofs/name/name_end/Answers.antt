@@ -1,28 +1,29 @@
 -- `names::name::name_end` meets its contract.
+use mathlib.Core.Path.{sym, ◌∙◌}
 use native.Mathlib.Omega.{arith}
-use Rattle.names.proofs.Letters.{letters_room}
-use Rattle.names.proofs.Ends.{end_empty, end_long, end_past, end_is, end_other}
+use Rattle.names.proofs.Ends.{none_past, none_long, none_end, none_other, some_is}
 use Rattle.names.proofs.name.name_end.Goals as goal
 
+pub returns-in_err-rest : goal.returns-in_err-rest
+returns-in_err-rest c = c.from_residual.ensures ∙ none_past _ _ _ (omega (arith, c.in_err-rest.ensures.lookup.0))
+
 pub returns-then-count-eq0 : goal.returns-then-count-eq0
-returns-then-count-eq0 c = end_empty _ _ _ _ c.letters_at-count.ensures c.if-count-eq0.true
+returns-then-count-eq0 c = none_long _ _ _ c.in_ok-rest.ensures.lookup.0.2 c.letters_of-count.ensures c.then-count-eq0.either
 
-pub returns-then-count-gt-LETTERS : goal.returns-then-count-gt-LETTERS
-returns-then-count-gt-LETTERS c = end_long _ _ _ _ c.letters_at-count.ensures (omega arith) c.if-count-gt-LETTERS.true
+pub returns-in_err-get : goal.returns-in_err-get
+returns-in_err-get c =
+    c.from_residual-in_err-get.ensures
+    ∙ none_end _ _ _ c.in_ok-rest.ensures.lookup.0.2 c.letters_of-count.ensures c.if-count-eq0.false c.if-count-gt-LETTERS.false c.requires
+    c.in_err-get.ensures.lookup.3
 
-pub overflow_add-after : goal.overflow_add-after
-overflow_add-after c =
-    let a = c.args in
-    omega (arith, c.letters_at-count.ensures, letters_room a.text.now a.at)
+pub returns-then-branch-end : goal.returns-then-branch-end
+returns-then-branch-end c =
+    let read = c.in_ok-get.ensures.lookup.3.1 0 in
+    let rest = c.in_ok-rest.ensures.lookup.0.2 in
+    some_is _ _ _ rest c.letters_of-count.ensures c.if-count-eq0.false c.if-count-gt-LETTERS.false (sym read ∙ c.if-branch-end.true)
 
-pub returns-then-text-after : goal.returns-then-text-after
-returns-then-text-after c =
-    end_past _ _ _ _ c.letters_at-count.ensures (omega arith) c.if-count-gt-LETTERS.false c.requires c.if-text-after.true
-
-pub returns-then-b-end : goal.returns-then-b-end
-returns-then-b-end c =
-    end_is _ _ _ _ c.letters_at-count.ensures (omega arith) c.if-count-gt-LETTERS.false c.if-b-end.true
-
-pub returns-else-b-end : goal.returns-else-b-end
-returns-else-b-end c =
-    end_other _ _ _ _ c.letters_at-count.ensures (omega arith) c.if-count-gt-LETTERS.false c.if-b-end.false
+pub returns-else-branch-end : goal.returns-else-branch-end
+returns-else-branch-end c =
+    let read = c.in_ok-get.ensures.lookup.3.1 0 in
+    let rest = c.in_ok-rest.ensures.lookup.0.2 in
+    none_other _ _ _ rest c.letters_of-count.ensures c.if-count-eq0.false c.if-count-gt-LETTERS.false (λ z. c.if-branch-end.false (read ∙ z))

@@ -4,8 +4,8 @@ use lib.ListN.{length}
 use Rattle.player.proofs.Plays.{Playing}
 use Rattle.player.proofs.played.play_calls.Given as goal
 
-abbrev pub invariant-loop-at : goal.invariant-loop-at
-invariant-loop-at l = Playing l.text l.from l.initial.held l.initial.buf l.held l.buf l.at l.end
+abbrev pub invariant-loop-call : goal.invariant-loop-call
+invariant-loop-call l = Playing l.text l.from l.initial.held l.initial.buf l.held l.buf l.at l.end
 
-abbrev pub decreases-loop-at : goal.decreases-loop-at
-decreases-loop-at l = length l.text - l.at
+abbrev pub decreases-loop-call : goal.decreases-loop-call
+decreases-loop-call l = length l.text - l.at

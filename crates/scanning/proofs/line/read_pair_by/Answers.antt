@@ -1,13 +1,16 @@
 -- `scanning::line::read_pair_by` meets its contract.
-use mathlib.Core.Path.{sym, ap, ◌∙◌}
-use Rattle.scanning.specs.Line.{first_after}
+use mathlib.Core.Path.{refl, sym}
+use Rattle.scanning.specs.Line.{first_after, second_after}
 use Rattle.scanning.proofs.line.read_pair_by.Goals as goal
 
-pub returns-in-NoNumber : goal.returns-in-NoNumber
+pub returns-in_err-x : goal.returns-in_err-x
 unfolding first_after
-returns-in-NoNumber c = sym (ap (first_after _ _) (sym c.in-NoNumber.ensures))
+returns-in_err-x c = rw (sym c.in_err-x.ensures) c.from_residual.ensures
 
-pub returns-in-Value : goal.returns-in-Value
-unfolding first_after
-returns-in-Value c =
-    c.read_second.ensures ∙ sym (ap (first_after _ _) (sym c.in-Value.ensures))
+pub returns-in_err-y : goal.returns-in_err-y
+unfolding first_after second_after
+returns-in_err-y c = rw (sym c.in_ok-x.ensures, sym c.in_err-y.ensures) c.from_residual-in_err-y.ensures
+
+pub returns : goal.returns
+unfolding first_after second_after
+returns c = rw (sym c.in_ok-x.ensures, sym c.in_ok-y.ensures) refl

@@ -1,7 +1,9 @@
 -- `scanning::number::digits` meets its contract.
+use Rattle.std.specs.declared.option.Option.TheVariants.{Some}
 use native.Mathlib.Omega.{arith}
 use borrow.Author.Rules.{rules}
-use mathlib.Core.Path.{refl, sym, ◌∙◌}
+use Prim.Native.Nat.{ℕ}
+use mathlib.Core.Path.{refl, sym, ap, ◌∙◌}
 use Rattle.scanning.proofs.Digits.{digits_end, digits_large, digits_more, digits_done}
 use Rattle.scanning.proofs.number.digits.Goals as goal
 
@@ -29,4 +31,6 @@ loop-at-preserved c =
     )
 
 pub returns : goal.returns
-returns c = sym (c.loop-at.invariant.2 ∙ digits_done _ _ _ _ c.loop-at-test.false)
+returns c =
+    let l = c.loop-at in
+    sym (l.invariant.2 ∙ digits_done _ _ _ _ c.loop-at-test.false ∙ ap (λ (k : ℕ). Some (l.v, k)) (omega arith))

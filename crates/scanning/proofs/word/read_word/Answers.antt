@@ -1,22 +1,22 @@
 -- `scanning::word::read_word` meets its contract.
-use mathlib.Core.Path.{sym}
-use borrow.Author.Rules.{rules}
-use Rattle.scanning.proofs.Words.{begun, cut, other, next_byte, whole}
+use mathlib.Core.Path.{◌≡◌, refl, sym, ap, ◌∙◌}
+use mathlib.Core.List.{List}
+use Prim.Native.Nat.{ℕ}
+use lib.ListN.{drop}
+use Rattle.std.proofs.Common.{Bor}
+use Rattle.scanning.specs.Word.{starts}
+use Rattle.scanning.proofs.Words.{starts_is, rest_from, read_here, read_none}
+use Rattle.scanning.proofs.word.read_word.Goals.{After-starts_with}
 use Rattle.scanning.proofs.word.read_word.Goals as goal
 
-pub loop-i-init : goal.loop-i-init
-loop-i-init c = begun _ _ _
+-- what was tested is that the text from there on starts with the word
+tested : (c : After-starts_with) → starts c.args.word.now (drop c.args.at c.args.text.now) ≡ c.starts_with.result
+tested c =
+    let e = ap (λ (b : Bor (List ℕ)). b.now) c.unwrap_or-rest.ensures ∙ rest_from _ _ _ _ refl c.get.ensures.lookup.0 in
+    sym (c.starts_with.ensures.value ∙ starts_is c.args.word.now c.unwrap_or-rest.result.now ∙ ap (λ (l : List ℕ). starts c.args.word.now l) e)
 
-pub returns-then-text-next : goal.returns-then-text-next
-returns-then-text-next c = sym (cut _ _ _ _ _ c.loop-i.invariant c.loop-i-test.true c.if-text-next.true)
+pub returns-then-starts_with : goal.returns-then-starts_with
+returns-then-starts_with c = read_here _ _ _ (tested (goal.at.returns-then-starts_with c).After-starts_with ∙ c.if-starts_with.true)
 
-pub returns-then-text-next-2 : goal.returns-then-text-next-2
-returns-then-text-next-2 c = sym (other _ _ _ _ _ c.loop-i.invariant c.loop-i-test.true
-    (search rules) c.if-text-next-2.true)
-
-pub loop-i-preserved : goal.loop-i-preserved
-loop-i-preserved c = next_byte _ _ _ _ _ c.loop-i.invariant c.loop-i-test.true
-    (search rules) c.if-text-next-2.false
-
-pub returns : goal.returns
-returns c = whole _ _ _ _ _ c.loop-i.invariant c.loop-i-test.false
+pub returns-else-starts_with : goal.returns-else-starts_with
+returns-else-starts_with c = read_none _ _ _ (tested (goal.at.returns-else-starts_with c).After-starts_with ∙ c.if-starts_with.false)

@@ -8,18 +8,18 @@ use Rattle.sheet_answer.proofs.input.read_input.Goals as goal
 
 pub overflow_cast-cores : goal.overflow_cast-cores
 overflow_cast-cores c =
-    omega (arith, (field_kept _ _ _ _ _ _ (search rules) (sym c.in-Value.ensures)).0)
+    omega (arith, (field_kept _ _ _ _ _ _ (search rules) (sym c.in-Some.ensures)).0)
 
 pub slice_bounds-plan_sheet-count : goal.slice_bounds-plan_sheet-count
 slice_bounds-plan_sheet-count c =
-    field_ends _ _ _ _ _ _ (search rules) (sym c.in-Value.ensures)
+    field_ends _ _ _ _ _ _ (search rules) (sym c.in-Some.ensures)
 
 pub slice_bounds-plan_sheet-start : goal.slice_bounds-plan_sheet-start
-slice_bounds-plan_sheet-start c = field_ends _ _ _ _ _ _ (search rules) (sym c.in-Value.ensures)
+slice_bounds-plan_sheet-start c = field_ends _ _ _ _ _ _ (search rules) (sym c.in-Some.ensures)
 
-pub returns-in-NoNumber : goal.returns-in-NoNumber
-returns-in-NoNumber c = c.unread.ensures ∙ input_none _ (sym c.in-NoNumber.ensures)
+pub returns-in-None : goal.returns-in-None
+returns-in-None c = c.unread.ensures ∙ input_none _ (sym c.in-None.ensures)
 
-pub returns-in-Value : goal.returns-in-Value
-returns-in-Value c =
-    c.plan_sheet.ensures ∙ input_is _ (sym c.in-Value.ensures)
+pub returns-in-Some : goal.returns-in-Some
+returns-in-Some c =
+    c.plan_sheet.ensures ∙ input_is _ (sym c.in-Some.ensures)

@@ -1,31 +1,28 @@
 -- `sheet_text::sheet::read_sheet` meets its contract.
-use mathlib.Core.Path.{sym, ◌∙◌}
-use Rattle.sheet_text.proofs.Says.{gives_no, gives_same, sheet_none, sheet_out, sheet_is, starts_at}
+use mathlib.Core.Path.{sym}
 use Rattle.sheet_text.specs.Sheet.{tick_line, end_of}
+use Rattle.sheet_text.proofs.Says.{gives_no, gives_same, sheet_none, sheet_out, sheet_is, starts_at}
 use Rattle.sheet_text.proofs.sheet.read_sheet.Goals as goal
 
-pub returns-then-not-tick_in : goal.returns-then-not-tick_in
-returns-then-not-tick_in c =
+pub returns-in_default : goal.returns-in_default
+returns-in_default c =
     let a = c.args in
-    let w = gives_no (end_of (tick_line a.sheet.now)) _ a.table.now
-    (sheet_out a.sheet.now (sym c.in-Value.ensures) (sym c.tick_in.ensures ∙ c.if-not-tick_in.true)) in
+    let w = gives_no (end_of (tick_line a.sheet.now)) _ a.table.now (sheet_none a.sheet.now (sym c.in_default.ensures)) in
     record { value = w.0; table_after = w.1 }
 
 pub read_jobs-requires : goal.read_jobs-requires
-read_jobs-requires c =
-    sym c.tick_in.ensures ∙ c.if-not-tick_in.false
+read_jobs-requires c = sym c.if-tick_in.ensures
 
-pub returns-in-NoNumber : goal.returns-in-NoNumber
-returns-in-NoNumber c =
-    let a = c.args in
-    let w = gives_no (end_of (tick_line a.sheet.now)) _ a.table.now (sheet_none a.sheet.now (sym c.in-NoNumber.ensures)) in
-    record { value = w.0; table_after = w.1 }
-
-pub returns-else-not-tick_in : goal.returns-else-not-tick_in
-returns-else-not-tick_in c =
-    let e = sym c.in-Value.ensures in
+pub returns-then-tick_in : goal.returns-then-tick_in
+returns-then-tick_in c =
+    let e = sym c.in-Some.ensures in
     let a = c.args in
     let j = c.read_jobs.ensures in
-    let w = gives_same a.table.now (starts_at a.sheet.now e) (sheet_is a.sheet.now e (sym c.tick_in.ensures ∙ c.if-not-tick_in.false))
-    (j.value, j.table_after) in
+    let w = gives_same a.table.now (starts_at a.sheet.now e) (sheet_is a.sheet.now e (sym c.if-tick_in.ensures)) (j.value, j.table_after) in
+    record { value = w.0; table_after = w.1 }
+
+pub returns-else-tick_in : goal.returns-else-tick_in
+returns-else-tick_in c =
+    let a = c.args in
+    let w = gives_no (end_of (tick_line a.sheet.now)) _ a.table.now (sheet_out a.sheet.now (sym c.in-Some.ensures) (sym c.if-tick_in.ensures)) in
     record { value = w.0; table_after = w.1 }

@@ -2,17 +2,11 @@
 use Prim.Native.Nat.{◌/◌, ◌%◌}
 use mathlib.Core.Path.{sym}
 use native.Mathlib.Nat.{eq-one_of_dvd-one}
-use borrow.Author.Tests.{eq-eqb, ne_eqb}
+use borrow.Author.Tests.{eq-eqb}
 use Rattle.arith.proofs.Euclid.{gcd_left}
 use Rattle.soundness.proofs.plan.divisor_with.Goals as goal
-
-pub returns-then-common-period-ne0 : goal.returns-then-common-period-ne0
-returns-then-common-period-ne0 c = rw (ne_eqb _ 0 c.if-common-period-ne0.true)
 
 pub returns-then-divisor-eq1 : goal.returns-then-divisor-eq1
 returns-then-divisor-eq1 c =
     let s = c.args in
     rw (eq-eqb (s.common % s.period) 0 c.if-common-period-ne0.false, c.if-divisor-eq1.true) (sym (eq-one_of_dvd-one (gcd_left 1 (s.common / s.period))))
-
-pub returns : goal.returns
-returns c = rw (eq-eqb _ 0 c.if-common-period-ne0.false) c.gcd.ensures

@@ -63,15 +63,6 @@ loop-i-init c =
     let pl = c.args.plan in
     (start pl (known c) (long c), summed.start pl (long c))
 
-pub overflow_sub-i : goal.overflow_sub-i
-overflow_sub-i c = omega arith
-
-pub offset_bounds-plan-i : goal.offset_bounds-plan-i
-offset_bounds-plan-i c = omega (arith, low c)
-
-pub bounds-plan-i : goal.bounds-plan-i
-bounds-plan-i c = omega (arith, low c)
-
 pub returns-then-not-line_sound : goal.returns-then-not-line_sound
 returns-then-not-line_sound c =
     let pl = c.args.plan in
@@ -80,9 +71,6 @@ returns-then-not-line_sound c =
     (tested (goal.at.returns-then-not-line_sound c).In-loop-i).0
     c.if-i-count.true
     (sym c.line_sound.ensures ∙ c.if-not-line_sound.true)))
-
-pub divisor_with-divisor-requires : goal.divisor_with-divisor-requires
-divisor_with-divisor-requires c = let r = in_use c in omega arith
 
 pub returns-then-divisor-eq0 : goal.returns-then-divisor-eq0
 returns-then-divisor-eq0 c =
@@ -100,9 +88,6 @@ with_line-sums-requires c =
       sound_sum pl.common (line_of c.args.plan c.loop-i.i) (sound (goal.at.with_line-sums-requires c).Else-not-line_sound),
       omega (arith, sound_small pl.common (line_of c.args.plan c.loop-i.i) (sound (goal.at.with_line-sums-requires c).Else-not-line_sound), n.common_small),
     )
-
-pub loop-i-smaller-then-i-count : goal.loop-i-smaller-then-i-count
-loop-i-smaller-then-i-count c = omega arith
 
 pub loop-i-preserved-then-i-count : goal.loop-i-preserved-then-i-count
 loop-i-preserved-then-i-count c =
@@ -130,9 +115,6 @@ returns-then-not-line_empty c =
     (tested (goal.at.returns-then-not-line_empty c).In-loop-i).0
     c.if-i-count.false
     (sym c.line_empty.ensures ∙ c.if-not-line_empty.true)))
-
-pub loop-i-smaller : goal.loop-i-smaller
-loop-i-smaller c = omega arith
 
 pub loop-i-preserved : goal.loop-i-preserved
 loop-i-preserved c =

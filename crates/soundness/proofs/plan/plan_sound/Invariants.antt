@@ -5,6 +5,3 @@ use Rattle.soundness.proofs.plan.plan_sound.Given as goal
 
 abbrev pub invariant-loop-i : goal.invariant-loop-i
 invariant-loop-i l = Checked l.plan l.divisor l.i × Summed l.plan l.sums l.i
-
-abbrev pub decreases-loop-i : goal.decreases-loop-i
-decreases-loop-i l = l.i

@@ -21,4 +21,4 @@ tests ln st x q e s = s ∙ rw (e, q)
 pub returns : goal.returns
 returns c =
     let s = c.args in
-    tests s.line s.self s.time.0 c.due_after-after.ensures c.held-early.ensures c.finish_tests.ensures
+    tests s.line s.self s.time.0 c.due_after.ensures c.held-early.ensures c.finish_tests.ensures

@@ -2,6 +2,7 @@
 use Prim.Native.Nat.{ℕ, ◌+◌, ◌-◌}
 use mathlib.Core.Path.{◌≡◌, sym, ap, ◌∙◌}
 use mathlib.Core.Bool.{cond}
+use mathlib.Core.Logic.{inl, inr}
 use lib.Dec.{ltb}
 use Rattle.task_shares.specs.Standing.{standing_on}
 use Rattle.task_shares.proofs.Stands.{is_upper, is_lower, upper_stands, lower_stands, found}
@@ -31,7 +32,6 @@ pub returns-in-Lower : goal.returns-in-Lower
 returns-in-Lower c = keyed (goal.at.returns-in-Lower c).After-stands Lower c.in-Lower.is
 
 pub returns-in-Fixed : goal.returns-in-Fixed
-returns-in-Fixed c = keyed (goal.at.returns-in-Fixed c).After-stands Fixed c.in-Fixed.is
-
-pub returns-in-Absent : goal.returns-in-Absent
-returns-in-Absent c = keyed (goal.at.returns-in-Absent c).After-stands Absent c.in-Absent.is
+returns-in-Fixed c =
+    let keyed_as = keyed (goal.at.returns-in-Fixed c).After-stands in
+    elim c.in-Fixed.is [ inl e ↦ keyed_as Fixed e | inr e ↦ keyed_as Absent e ]

@@ -21,4 +21,4 @@ tests ln st k x q e s = rw (s, e, q)
 pub returns : goal.returns
 returns c =
     let s = c.args in
-    tests s.line s.self s.core s.time.0 c.due_after-after.ensures c.held-early.ensures refl
+    tests s.line s.self s.core s.time.0 c.due_after.ensures c.held-early.ensures refl

@@ -1,6 +1,0 @@
--- `stored_runs::Run::placed` meets its contract: the two tests are its own.
-use mathlib.Core.Path.{refl}
-use Rattle.stored_runs.proofs.Run.placed.Goals as goal
-
-pub returns : goal.returns
-returns c = refl
