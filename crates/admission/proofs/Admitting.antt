@@ -13,7 +13,7 @@ use Rattle.std.proofs.Common.{Ok, Err}
 use Rattle.arith.proofs.Table.{periods_at, periods_length}
 use Rattle.arith.proofs.Common.{common_each}
 use Rattle.arith.proofs.Within.{period_common}
-use Rattle.units.specs.declared.refusal.Refusal.{Refusal}
+use Rattle.units.specs.Refusals.{Refusal}
 use Rattle.admission.specs.Weight.{weights}
 use Rattle.admission.specs.Inner.{Weighable}
 use Rattle.admission.specs.Refusals.{◌or_else◌, input_test, weights_test}

@@ -1,7 +1,7 @@
 -- The first of several tests that refuses.
 use mathlib.Core.Path.{◌≡◌, sym, ap, ◌∙◌}
 use borrow.Author.Tests.{eq-eqb, ne_eqb}
-use Rattle.units.specs.declared.refusal.Refusal.{Refusal}
+use Rattle.units.specs.Refusals.{Refusal}
 use Rattle.admission.specs.Refusals.{◌or_else◌}
 
 -- a test x of what a tests that refuses decides

@@ -9,7 +9,7 @@ use Rattle.arith.proofs.Table.{periods_length}
 use Rattle.arith.proofs.Within.{period_over, over_period, over_large, large_over}
 use Rattle.units.specs.Refusals.{refusal}
 use Rattle.admission.specs.Admission.{plan_refusal}
-use Rattle.units.specs.declared.refusal.Refusal.{Refusal}
+use Rattle.units.specs.Refusals.{Refusal}
 use Rattle.admission.specs.Words.{CoresIn, CoresOut, TableOut, tasks, RangeIn, RangeOut, CostOver, PeriodIn, PeriodOut, Overfull}
 use Rattle.admission.specs.Given.{Tested, Reached, Given, none, one, two, three, four, five, six}
 use Rattle.admission.proofs.Applies.{applies}

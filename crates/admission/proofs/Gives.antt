@@ -15,7 +15,7 @@ use Rattle.units.specs.Refusals.{refusal, taken, cores_no, table_no, range_no, c
 use Rattle.admission.specs.Admission.{plan_refusal}
 use Rattle.admission.proofs.First.{decides, leaves}
 use Rattle.admission.proofs.Admitting.{input_decides, over, heavy, sum_decides}
-use Rattle.units.specs.declared.refusal.Refusal.{Refusal}
+use Rattle.units.specs.Refusals.{Refusal}
 use Rattle.admission.specs.Words.{CoresIn, CoresOut, TableIn, TableOut, common_of, weights_of, RangesIn, PeriodIn}
 use Rattle.admission.specs.Given.{Taken, Tested, Reached, Given, none, one, two, three, four, five, six}
 use Rattle.admission.proofs.InWords.{cores_in, cores_out, table_in_lem, table_out, task_three, task_four, tasks_in, tasks_out}

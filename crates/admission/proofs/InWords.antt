@@ -14,7 +14,7 @@ use Rattle.lists.proofs.Tests.{or_left, or_right, or_cases, or_false, or_false_l
 use Rattle.admission.specs.Refusals.{cores_test, no_table, table_test, task_test, tasks_test}
 use Rattle.units.specs.Refusals.{refusal, taken, cores_no, table_no, range_no, cost_no}
 use Rattle.admission.proofs.Tasks.{tasks_stop, tasks_go, tasks_end}
-use Rattle.units.specs.declared.refusal.Refusal.{Refusal}
+use Rattle.units.specs.Refusals.{Refusal}
 use Rattle.admission.specs.Words.{CoresIn, CoresOut, TableIn, TableOut, tasks, cost, period, RangeIn, RangeOut, CostOver, Fine, RangesIn, NoneOver}
 
 -- none of three tests holds

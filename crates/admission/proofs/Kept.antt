@@ -10,7 +10,7 @@ use lib.ListN.{length, get_or}
 use borrow.Author.Tests.{eqb-true, eqb-false, ltb-false}
 use Rattle.units.specs.Limits.{cores_limit, tasks_limit, period_limit}
 use Rattle.lists.proofs.Tests.{by_cases, or_false_left, or_false_right}
-use Rattle.units.specs.declared.refusal.Refusal.{Refusal}
+use Rattle.units.specs.Refusals.{Refusal}
 use Rattle.admission.specs.Refusals.{◌or_else◌, cores_test, table_test, task_test, tasks_test, input_test}
 use Rattle.units.specs.Refusals.{refusal, taken, cost_no}
 

@@ -6,7 +6,7 @@ use native.Mathlib.Omega.{arith}
 use native.Mathlib.Numerals.{add-one}
 use lib.ListN.{length, get_or, drop}
 use Rattle.lists.proofs.Pairs.{pair_drop, pair_end}
-use Rattle.units.specs.declared.refusal.Refusal.{Refusal}
+use Rattle.units.specs.Refusals.{Refusal}
 use Rattle.admission.specs.Refusals.{◌or_else◌, task_test, tasks_test}
 use Rattle.units.specs.Refusals.{taken}
 use Rattle.admission.proofs.First.{decides, leaves}

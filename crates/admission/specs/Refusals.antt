@@ -2,7 +2,7 @@
 use Rattle.std.specs.Prelude.{ℕ, suc, ◌*◌, ◌%◌, Bool, cond, ◌||◌, List, [], ◌∷◌, ltb, eqb, length}
 use Rattle.units.specs.Limits.{cores_limit, tasks_limit, period_limit}
 use Rattle.lists.specs.Lists.{total}
-use Rattle.units.specs.declared.refusal.Refusal.{Refusal}
+use Rattle.units.specs.Refusals.{Refusal}
 use Rattle.units.specs.Refusals.{refusal, cores_no, table_no, range_no, taken, weights_no, cost_no}
 
 -- the first of two tests that refuses

@@ -8,7 +8,7 @@ use lib.Dec.{eqb}
 use borrow.Author.Tests.{ne_eqb, eqb-true}
 use Rattle.lists.proofs.Tests.{by_cases}
 use Rattle.units.specs.Refusals.{refusal}
-use Rattle.units.specs.declared.refusal.Refusal.{Refusal}
+use Rattle.units.specs.Refusals.{Refusal}
 use Rattle.planning.specs.declared.Plan.{Plan}
 use Rattle.arrivals.specs.Arrivals.{arrival_tests, refusal_from, arrivals_refusal}
 use Rattle.arrivals.specs.Fine.{First}

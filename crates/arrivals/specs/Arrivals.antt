@@ -1,7 +1,7 @@
 -- The arrivals of a day, request R-6: a list of numbers, three to an arrival: its time, its task from 1 and its length. Arrivals are counted from 0.
 use Rattle.std.specs.Prelude.{ℕ, zero, suc, ◌+◌, ◌*◌, ◌/◌, cond, ◌||◌, List, ltb, leb, eqb, length, get_or}
 use Rattle.units.specs.Refusals.{refusal, taken, arrival_no, length_no, order_no}
-use Rattle.units.specs.declared.refusal.Refusal.{Refusal}
+use Rattle.units.specs.Refusals.{Refusal}
 use Rattle.admission.specs.Refusals.{◌or_else◌}
 use Rattle.planning.specs.Tasks.{task_line}
 use Rattle.planning.specs.declared.Plan.{Plan}

@@ -2,11 +2,12 @@
 #![tactic(auto)]
 
 ghost use Rattle.std.specs.Prelude.{◌≡◌};
+ghost use Rattle.units.specs.Refusals.{said, number_said};
 ghost use Rattle.arrivals.specs.Arrivals.{arrivals_in, tests_of, arrivals_refusal};
 
 use planning::Plan;
 use units::limits::TASKS;
-use units::refusal::Refusal;
+use units::refusal::{Reason, Refusal};
 
 // Arrivals of a day, at most.
 pub const ARRIVALS: usize = 4_096;
@@ -20,26 +21,26 @@ pub fn arrival_tests(
     length: u64,
     before: u64,
     time: u64,
-) -> u32
-    ensures { result ≡ tests_of k count task cost length before time }
+) -> Result<(), Reason>
+    ensures { number_said result ≡ tests_of k count task cost length before time }
 {
     let tasks = count as u64;
     let outside = (task == 0) | (tasks < task);
     if (ARRIVALS <= k) | outside {
-        return Refusal::ARRIVAL;
+        return Err(Reason::Arrival);
     }
     if (length == 0) | (cost < length) {
-        return Refusal::LENGTH;
+        return Err(Reason::Length);
     }
     if time < before {
-        return Refusal::ORDER;
+        return Err(Reason::Order);
     }
-    0
+    Ok(())
 }
 
 // The first arrival that is refused, named from 1.
-pub fn arrivals_refusal(plan: Plan, arrivals: &[u64]) -> Refusal
-    ensures { result ≡ arrivals_refusal plan arrivals.now (arrivals_in arrivals.now) }
+pub fn arrivals_refusal(plan: Plan, arrivals: &[u64]) -> Result<(), Refusal>
+    ensures { said result ≡ arrivals_refusal plan arrivals.now (arrivals_in arrivals.now) }
 {
     let mut before = 0;
     for k in 0..arrivals.len() / 3 {
@@ -52,11 +53,13 @@ pub fn arrivals_refusal(plan: Plan, arrivals: &[u64]) -> Refusal
         } else {
             0
         };
-        let no = arrival_tests(k, plan.count, task, cost, length, before, time);
-        if no != 0 {
-            return Refusal { no, named: k + 1 };
+        if let Err(reason) = arrival_tests(k, plan.count, task, cost, length, before, time) {
+            return Err(Refusal {
+                reason,
+                named: k + 1,
+            });
         }
         before = time;
     }
-    Refusal::NONE
+    Ok(())
 }

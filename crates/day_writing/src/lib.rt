@@ -3,6 +3,7 @@
 
 ghost use Rattle.std.specs.Prelude.{◌+◌, ◌*◌, ◌≤◌, ◌<◌, ◌≡◌, cond, [], ◌∷◌, eqb, length};
 ghost use Rattle.units.specs.Limits.{cores_limit};
+ghost use Rattle.units.specs.Refusals.{number_said as no};
 ghost use Rattle.writing.specs.Inner.{place_limit};
 ghost use Rattle.day_lines.specs.Lines.{events_text};
 ghost use Rattle.day_window.specs.Window.{Windowed};
@@ -17,27 +18,33 @@ use day_window::put_within;
 use goings::{Going, going_in, store_going};
 use instants::Seen;
 use units::limits::CORES;
+use units::refusal::Reason;
 use units::ticks::Ticks;
 
-// A refused arrival; nothing where its number is 0.
+// A refused arrival; nothing where it is taken.
 #[tactic(auto, using(day_window::proofs::Windows::none, day_window::proofs::Saying::alone))]
 pub fn put_arrival(
     out: &mut [u8],
     skip: usize,
     at: usize,
-    no: u32,
+    taken: Result<(), Reason>,
     arrival: usize,
     task: usize,
     time: Ticks,
 ) -> usize
     requires { at + 180 ≤ place_limit }
-    ensures windowed { Windowed out.old skip at (events_text (cond (eqb no 0) [] (Refused no arrival task time ∷ []))) out.new result }
+    ensures windowed { Windowed out.old skip at (events_text (cond (eqb (no taken) 0) [] (Refused (no taken) arrival task time ∷ []))) out.new result }
     ensures upper_bound { result ≤ at + 180 }
 {
-    if no == 0 {
-        return at;
+    match taken {
+        Ok(()) => at,
+        Err(reason) => put_within(
+            out,
+            skip,
+            at,
+            Event::Refused(reason.number(), arrival, task, time),
+        ),
     }
-    put_within(out, skip, at, Event::Refused(no, arrival, task, time))
 }
 
 // The span that ends on a core, from 0, where another run has it now.

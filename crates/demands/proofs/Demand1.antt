@@ -24,7 +24,7 @@ use Rattle.dispatch.specs.declared.Record.{Record}
 use Rattle.core_choice.specs.declared.Choice.TheVariants.{Idle}
 use Rattle.dispatch.specs.declared.call.Call.{Call}
 use Rattle.dispatch.specs.declared.call.Call.TheVariants.{Release, Finish, Look}
-use Rattle.dispatch.specs.declared.call.Answer.TheVariants.{Refused}
+use Rattle.dispatch.specs.Calls.Answer.{Refused}
 use Rattle.dispatch.specs.Record.{record_of, fresh_of}
 use Rattle.dispatch.specs.Release.{release_of}
 use Rattle.dispatch.specs.Finish.{finish_of}

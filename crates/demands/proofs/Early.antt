@@ -24,7 +24,7 @@ use Rattle.core_choice.specs.Told.{choice_kind, choice_task}
 use Rattle.dispatch.specs.declared.Record.{Record}
 use Rattle.dispatch.specs.declared.call.Call.{Call}
 use Rattle.dispatch.specs.declared.call.Call.TheVariants.{Release, Finish, Look}
-use Rattle.dispatch.specs.declared.call.Answer.TheVariants.{Refused, Released, Finished, Looked}
+use Rattle.dispatch.specs.Calls.Answer.{Refused, Released, Finished, Looked}
 use Rattle.dispatch.specs.Record.{record_of, fresh_of}
 use Rattle.dispatch.specs.Release.{release_of}
 use Rattle.dispatch.specs.Shape.{Good}

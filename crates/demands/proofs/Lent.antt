@@ -12,7 +12,7 @@ use lib.ListN.{length, get_or, drop}
 use lib.Seq.{sets}
 use borrow.Author.Tests.{eqb-false, ne_eqb}
 use Rattle.units.specs.Refusals.{refusal}
-use Rattle.units.specs.declared.refusal.Refusal.{Refusal}
+use Rattle.units.specs.Refusals.{Refusal}
 use Rattle.admission.specs.Admission.{plan_refusal}
 use Rattle.admission.specs.Words.{CoresIn, tasks, cost, period}
 use Rattle.admission.specs.Given.{Given, Taken}

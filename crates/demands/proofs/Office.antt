@@ -28,12 +28,12 @@ use Rattle.sheet_text.specs.Sheet.{Said, says, refused_by, sheet_of}
 use Rattle.sheet_text.specs.Grammar.{Says, sheet_written}
 use Rattle.sheet_text.proofs.EverySheet.{said_exactly}
 use Rattle.sheet_reading.specs.Read.{unread, plan_sheet}
-use Rattle.sheet_reading.specs.declared.Sheet.{Sheet}
+use Rattle.sheet_reading.specs.Read.{Sheet}
 use Rattle.sheet_reading.proofs.Held.{plan_held}
 use Rattle.sheet_reading.proofs.Words.{sheet_taken, sheet_refused}
 use Rattle.sheet_writing.specs.Write.{jobs_with, written_of, written_after, sheet_for}
 use Rattle.sheet_writing.specs.Given.{Named, Fine, Given as WriteGiven}
-use Rattle.sheet_writing.specs.declared.Written.{Written}
+use Rattle.sheet_writing.specs.Write.{Written}
 use Rattle.sheet_writing.proofs.Exactly as Writing
 use Rattle.sheet_laws.proofs.RoundTrip as Laws
 use Rattle.sheet_laws.proofs.Examples as Sheet

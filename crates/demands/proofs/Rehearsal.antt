@@ -14,7 +14,7 @@ use Rattle.lists.specs.Lists.{bit}
 use Rattle.units.specs.Units.{ticks}
 use Rattle.units.specs.Refusals.{refusal}
 use Rattle.units.specs.declared.ticks.Ticks.{Ticks}
-use Rattle.units.specs.declared.refusal.Refusal.{Refusal}
+use Rattle.units.specs.Refusals.{Refusal}
 use Rattle.writing.specs.Ascii.{ascii}
 use Rattle.writing.specs.Decimal.{decimal_of}
 use Rattle.writing.specs.Refused.{named_text, refusal_text}

@@ -19,8 +19,8 @@ use Rattle.turn.proofs.SincePlan.{goes_to_one}
 use Rattle.dispatch.specs.declared.Record.{Record}
 use Rattle.dispatch.specs.declared.call.Call.{Call}
 use Rattle.dispatch.specs.declared.call.Call.TheVariants.{Release, Look}
-use Rattle.dispatch.specs.declared.call.Answer.{Answer}
-use Rattle.dispatch.specs.declared.call.Answer.TheVariants.{Released, Looked}
+use Rattle.dispatch.specs.Calls.{Answer}
+use Rattle.dispatch.specs.Calls.Answer.{Released, Looked}
 use Rattle.core_choice.specs.declared.Choice.{Choice}
 use Rattle.dispatch.specs.Record.{record_of, fresh_of, state_at}
 use Rattle.dispatch.specs.Shape.{Good}

@@ -8,9 +8,9 @@ use native.Mathlib.Omega.{arith}
 use Rattle.dispatch.specs.declared.Record.{Record}
 use Rattle.dispatch.specs.declared.call.Call.{Call}
 use Rattle.dispatch.specs.declared.call.Call.TheVariants.{Release, Finish, Look}
-use Rattle.dispatch.specs.declared.release.Released.{Released}
-use Rattle.dispatch.specs.declared.finish.Finished.{Finished}
-use Rattle.dispatch.specs.declared.look.Looked.{Looked}
+use Rattle.dispatch.specs.Release.{Released}
+use Rattle.dispatch.specs.Finish.{Finished}
+use Rattle.dispatch.specs.Look.{Looked}
 use Rattle.dispatch.specs.Shape.{Good}
 use Rattle.dispatch.specs.Calls.{time_of, call_refusal, step, after}
 use Rattle.dispatch.proofs.Passed.{release_passed, finish_passed, look_passed}

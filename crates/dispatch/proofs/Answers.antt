@@ -17,8 +17,8 @@ use Rattle.task_state.specs.Runs.{taken_run, without_run}
 use Rattle.dispatch.specs.declared.Record.{Record}
 use Rattle.core_choice.specs.declared.Choice.{Choice}
 use Rattle.core_choice.specs.declared.Choice.TheVariants.{Idle}
-use Rattle.dispatch.specs.declared.look.Looked.{Looked}
-use Rattle.dispatch.specs.declared.look.LookedTold.{LookedTold}
+use Rattle.dispatch.specs.Look.{Looked}
+use Rattle.dispatch.specs.Look.{LookedTold}
 use Rattle.dispatch.specs.Record.{line_at, state_at, moved}
 use Rattle.dispatch.specs.Refusals.{task_tests, look_refusal, release_refusal, finish_refusal}
 use Rattle.dispatch.specs.Release.{take_release, refuse_release, release_of, release_or}
@@ -87,22 +87,11 @@ module _ (r : Record) (i t : ℕ) where
     unfolding release_or
     release_or_refused {n} q z = rw (release_refused q z, ne_eqb n 0 z)
 
-    pub release_or_taken : {n : ℕ} {x : Taken} → n ≡ release_refusal r i t → n ≡ 0 → x ≡ taken_run (line_at r (i - 1)) (state_at r (i - 1)) t
-        → release_or r i t core deadline ≡ record { refusal = n; core = x.core; deadline = x.deadline; next = moved r (i - 1) x.state t }
-    unfolding release_or
-    release_or_taken q e w = rw (release_taken q e w, e)
-
   module _ (late : ℤ) where
     pub finish_or_refused : {n : ℕ} {by : ℤ} → n ≡ finish_refusal r i t → (n ≡ 0 → ⊥) → by ≡ late
         → finish_or r i t late ≡ record { refusal = n; late = by; next = r }
     unfolding finish_or
     finish_or_refused {n} q z s = rw (finish_refused q z, ne_eqb n 0 z, s)
-
-    pub finish_or_taken : {n : ℕ} {z : ℤ} {st : State} → n ≡ finish_refusal r i t → n ≡ 0
-        → z ≡ sub_ℕ t (deadline_of (state_at r (i - 1))) → st ≡ without_run (state_at r (i - 1))
-        → finish_or r i t late ≡ record { refusal = n; late = z; next = moved r (i - 1) st t }
-    unfolding finish_or
-    finish_or_taken q e v w = rw (finish_taken q e v w, e)
 
   module _ (told : Told) where
     pub look_or_refused : {n : ℕ} → n ≡ look_refusal r i t → (n ≡ 0 → ⊥) → look_or r i t told ≡ record { refusal = n; told = told; next = r }
@@ -114,15 +103,7 @@ module _ (r : Record) (i t : ℕ) where
     unfolding look_or
     look_or_taken q e w = rw (look_taken q e refl, e, w)
 
-  -- every other number 0 where a call is refused: the calls of document 01
-  pub release_or_zeros : release_or r i t 0 (ticks 0) ≡ release_of r i t
-  unfolding release_or release_of take_release refuse_release
-  release_or_zeros = by_cases (eqb (release_refusal r i t) 0) (λ e. rw e) (λ e. rw (e, e))
-
-  pub finish_or_zero : {z : ℤ} → z ≡ pos 0 → finish_or r i t z ≡ finish_of r i t
-  unfolding finish_or finish_of take_finish refuse_finish
-  finish_or_zero s = rw s (by_cases (eqb (finish_refusal r i t) 0) (λ e. rw e) (λ e. rw (e, e)))
-
+  -- and the choice of its numbers, those of an idle core where it is refused
   told_idle : choice_told (look_or r i t (told_of Idle)).told ≡ (look_of r i t).choice
   unfolding look_or look_of
   told_idle = by_cases (eqb (look_refusal r i t) 0) (λ e. rw e (told_again (choice_of (at_time r t) i))) (λ e. rw (e, e))

@@ -1,9 +1,12 @@
 -- What a call may rely on once it has passed 15, 7 or 13, 12 and 8.
 use Prim.Native.Nat.{ℕ, ◌+◌, ◌-◌, ◌^◌, ◌≤◌, ◌<◌}
+use mathlib.Core.Bool.{Bool}
 use mathlib.Core.Path.{◌≡◌}
 use native.Mathlib.Omega.{arith}
 use borrow.Author.Tests.{eq-eqb}
 use Rattle.units.specs.Limits.{cores_limit, tasks_limit, period_limit, clock_limit}
+use Rattle.units.specs.Refusals.{task_no}
+use Rattle.call_tests.specs.Tests.{shared_tests}
 use Rattle.soundness.proofs.Facts.{tasks_few, cores_few, weight_small, shares_sum}
 use Rattle.task_state.specs.Tests.{release_tests, finish_tests}
 use Rattle.task_state.specs.Key.{deadline_of}
@@ -11,6 +14,7 @@ use Rattle.task_state.specs.Inner.{Releasable}
 use Rattle.state_rules.proofs.Facts.{facts, releasable}
 use Rattle.task_state.proofs.Passed.{has_run}
 use Rattle.dispatch.specs.declared.Record.{Record}
+use Rattle.dispatch.specs.Sound.{sound_of}
 use Rattle.dispatch.specs.Record.{line_at, state_at}
 use Rattle.dispatch.specs.Look.{best_of, at_time}
 use Rattle.dispatch.specs.Refusals.{task_tests, look_refusal, release_refusal, finish_refusal}
@@ -30,6 +34,12 @@ pub record TaskCall (r : Record) (i t : ℕ) : Type 0 where
   pub finish_number : finish_refusal r i t ≡ finish_tests (line_at r (i - 1)) (state_at r (i - 1)) t
   pub can_release : release_tests (line_at r (i - 1)) (state_at r (i - 1)) t ≡ 0 → Releasable (line_at r (i - 1)) (state_at r (i - 1)) t
   pub can_finish : finish_tests (line_at r (i - 1)) (state_at r (i - 1)) t ≡ 0 → 0 < (state_at r (i - 1)).live
+
+-- what every call for a task tests first
+pub task_first : (r : Record) (i t : ℕ) {sound : Bool} {n : ℕ} → sound ≡ sound_of r → n ≡ shared_tests sound task_no r.plan.count i r.clock.0 t
+    → n ≡ task_tests r i t
+unfolding task_tests
+task_first r i t e q = rw e at q
 
 -- so it is where none of 15, 7, 12 and 8 applies
 pub task_call : {r : Record} {i t : ℕ} → task_tests r i t ≡ 0 → TaskCall r i t

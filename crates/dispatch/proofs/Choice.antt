@@ -21,7 +21,7 @@ use Rattle.planning.specs.Tasks.{task_shares}
 use Rattle.soundness.proofs.SoundKept.{sound_kept}
 use Rattle.dispatch.specs.declared.Record.{Record}
 use Rattle.dispatch.specs.declared.call.Call.TheVariants.{Look}
-use Rattle.dispatch.specs.declared.call.Answer.TheVariants.{Looked}
+use Rattle.dispatch.specs.Calls.Answer.{Looked}
 use Rattle.core_choice.specs.declared.Side.TheVariants.{Upper, Lower}
 use Rattle.core_choice.specs.declared.Choice.{Choice}
 use Rattle.core_choice.specs.declared.Choice.TheVariants.{Idle, Fixed, Mover}

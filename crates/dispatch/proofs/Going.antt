@@ -20,7 +20,7 @@ use Rattle.task_state.specs.Runs.{turn_at, due_at, taken_run}
 use Rattle.state_rules.proofs.Facts.{facts, turnable}
 use Rattle.dispatch.specs.declared.Record.{Record}
 use Rattle.dispatch.specs.declared.call.Call.TheVariants.{Release}
-use Rattle.dispatch.specs.declared.call.Answer.TheVariants.{Released}
+use Rattle.dispatch.specs.Calls.Answer.{Released}
 use Rattle.dispatch.specs.Record.{line_at, state_at}
 use Rattle.dispatch.specs.Shape.{Good}
 use Rattle.dispatch.specs.Calls.{answered_of, call_refusal}

@@ -9,8 +9,8 @@ use Rattle.lists.proofs.Tests.{by_cases}
 use Rattle.dispatch.specs.declared.Record.{Record}
 use Rattle.core_choice.specs.declared.Choice.{Choice}
 use Rattle.dispatch.specs.declared.call.Call.TheVariants.{Release, Finish, Look}
-use Rattle.dispatch.specs.declared.call.Answer.{Answer}
-use Rattle.dispatch.specs.declared.call.Answer.TheVariants.{Refused, Released, Finished, Looked}
+use Rattle.dispatch.specs.Calls.{Answer}
+use Rattle.dispatch.specs.Calls.Answer.{Refused, Released, Finished, Looked}
 use Rattle.dispatch.specs.Refusals.{look_refusal, release_refusal, finish_refusal}
 use Rattle.dispatch.specs.Release.{take_release, refuse_release, release_of}
 use Rattle.dispatch.specs.Finish.{take_finish, refuse_finish, finish_of}

@@ -1,16 +1,30 @@
 -- Any calls on a record, one after another, refused ones included. Tasks and cores are counted from 1, runs from 0.
-use Rattle.std.specs.Prelude.{ℕ, ◌+◌, Bool, false, cond, List, [], ◌∷◌, ◌++◌, eqb, take, drop}
+use Rattle.std.specs.Prelude.{ℕ, ◌+◌, Bool, false, cond, List, [], ◌∷◌, ◌++◌, eqb, take, drop, ℤ, Result, Ok, Err}
 use Rattle.lists.specs.Lists.{bit}
-use Rattle.units.specs.Refusals.{refusal}
+use Rattle.units.specs.Refusals.{Refusal, refusal, number}
+use Rattle.units.specs.declared.refusal.Reason.{Reason}
+use Rattle.units.specs.declared.ticks.Ticks.{Ticks}
+use Rattle.core_choice.specs.declared.Choice.{Choice}
+use Rattle.dispatch.specs.declared.call.Answer.TheVariants as Taken
+use Rattle.dispatch.specs.declared.call.Answer.{Answer as TakenAnswer}
 use Rattle.dispatch.specs.declared.Record.{Record}
 use Rattle.dispatch.specs.declared.call.Call.{Call}
 use Rattle.dispatch.specs.declared.call.Call.TheVariants.{Release, Finish, Look}
-use Rattle.dispatch.specs.declared.call.Answer.{Answer}
-use Rattle.dispatch.specs.declared.call.Answer.TheVariants.{Refused, Released, Finished, Looked}
-use Rattle.dispatch.specs.declared.call.Answered.{Answered}
 use Rattle.dispatch.specs.Release.{release_of}
 use Rattle.dispatch.specs.Finish.{finish_of}
 use Rattle.dispatch.specs.Look.{look_of}
+
+-- the refusal; a run's core and deadline; the time less the deadline; a core's choice
+pub data Answer : Type 0 where
+  Refused : Refusal → Answer
+  Released : ℕ → Ticks → Answer
+  Finished : ℤ → Answer
+  Looked : Choice → Answer
+
+-- a call's answer, and the record after it
+pub record Answered : Type 0 where
+  pub answer : Answer
+  pub next : Record
 
 -- the answer of a call that is taken, or its refusal, which names no task
 abbrev pub or_refused : ℕ → Answer → Answer
@@ -27,6 +41,13 @@ answered_of r (Finish i t) =
 answered_of r (Look k t) =
     let a = look_of r k t.0 in
     record { answer = or_refused a.refusal (Looked a.choice); next = a.next }
+
+-- what the code's answer tells
+abbrev pub call_told : Result TakenAnswer Reason → Answer
+call_told (Ok (Taken.Released p d)) = Released p d
+call_told (Ok (Taken.Finished late)) = Finished late
+call_told (Ok (Taken.Looked choice)) = Looked choice
+call_told (Err e) = Refused (refusal (number e) 0)
 
 -- the call's time
 abbrev pub time_of : Call → ℕ

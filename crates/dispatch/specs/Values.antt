@@ -1,8 +1,8 @@
 -- Document 01's number and values for each case of an answer. What a case does not say is 0.
 use Rattle.std.specs.Prelude.{ℕ, ℤ, pos}
 use Rattle.core_choice.specs.Told.{choice_kind, choice_task, choice_deadline}
-use Rattle.dispatch.specs.declared.call.Answer.{Answer}
-use Rattle.dispatch.specs.declared.call.Answer.TheVariants.{Refused, Released, Finished, Looked}
+use Rattle.dispatch.specs.Calls.{Answer}
+use Rattle.dispatch.specs.Calls.Answer.{Refused, Released, Finished, Looked}
 
 -- every number that a call can answer
 pub record Values : Type 0 where

@@ -1,6 +1,6 @@
 // Planning for the dispatcher: a fresh record.
 ghost use Rattle.std.specs.Prelude.{◌≡◌};
-ghost use Rattle.dispatch.specs.Record.{record_of, fresh_of};
+ghost use Rattle.dispatch.specs.Record.{record_of, fresh_told, fresh_of};
 
 use crate::Record;
 use planning::{Plan, plan_of};
@@ -8,13 +8,6 @@ use task_state::State;
 use units::limits::TASKS;
 use units::refusal::Refusal;
 use units::ticks::Ticks;
-
-// The refusal and the empty record, or none and the fresh record of the plan.
-#[derive(Clone, Copy)]
-pub struct Fresh {
-    pub refusal: Refusal,
-    pub next: Record,
-}
 
 impl Record {
     // The record of a plan, with clock 0 and no runs.
@@ -28,14 +21,10 @@ impl Record {
         }
     }
 
-    // The plan of a table on a number of cores, as a fresh record.
-    pub fn fresh(cores: u32, table: &[u32]) -> Fresh
-        ensures { result ≡ fresh_of cores table.now }
+    // The plan of a table on a number of cores, as a fresh record; or the first refusal that applies.
+    pub fn fresh(cores: u32, table: &[u32]) -> Result<Record, Refusal>
+        ensures { fresh_told result ≡ fresh_of cores table.now }
     {
-        let planned = plan_of(cores, table);
-        Fresh {
-            refusal: planned.refusal,
-            next: Record::of(planned.plan),
-        }
+        Ok(Record::of(plan_of(cores, table)?))
     }
 }

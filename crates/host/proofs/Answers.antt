@@ -7,9 +7,9 @@ use native.Mathlib.Omega.{arith}
 use lib.IntN.{pos, negsuc, sub_ℕ}
 use borrow.Author.Tests.{lt-ltb, eq-eqb, ne_eqb}
 use Rattle.admission.specs.Admission.{plan_refusal, admission_of}
-use Rattle.admission.specs.declared.admit.Admission.{Admission}
+use Rattle.admission.specs.Admission.{Admission}
 use Rattle.admission.proofs.Answers.{says_refusal}
-use Rattle.listing.specs.declared.listed.Listed.{Listed}
+use Rattle.listing.specs.Listed.{Listed}
 use Rattle.listing.specs.Listed.{table_listed, table_after}
 use Rattle.host.specs.Host.{table_in, admit_of, negative, answered, host_listed, host_after}
 use Rattle.host.specs.Inner.{held_of}

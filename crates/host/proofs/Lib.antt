@@ -6,3 +6,4 @@ pub mod Examples
 pub mod Started
 pub mod Listed
 pub mod Settled
+pub mod Lent

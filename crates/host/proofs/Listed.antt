@@ -6,7 +6,7 @@ use lib.IntN.{ℤ, pos}
 use lib.ListN.{length}
 use borrow.Author.Tests.{ne_eqb}
 use Rattle.dispatch.specs.declared.Record.{Record}
-use Rattle.listing.specs.declared.listed.Listed.{Listed}
+use Rattle.listing.specs.Listed.{Listed}
 use Rattle.listing.specs.Listed.{listed_of}
 use Rattle.host.specs.Dispatcher.{list_or}
 

@@ -8,9 +8,9 @@ use Rattle.units.specs.Refusals.{or_kept}
 use Rattle.admission.specs.Words.{TableOut}
 use Rattle.soundness.proofs.Taken.{plan_number}
 use Rattle.dispatch.specs.declared.Record.{Record}
-use Rattle.dispatch.specs.declared.plan.Fresh.{Fresh}
+use Rattle.dispatch.specs.Record.{Fresh}
 use Rattle.dispatch.specs.Record.{fresh_of}
-use Rattle.host.specs.declared.dispatcher.LentStart.{LentStart}
+use Rattle.host.specs.Dispatcher.{LentStart}
 use Rattle.host.specs.Host.{table_in}
 use Rattle.host.specs.Dispatcher.{start_or}
 use Rattle.host.specs.Inner.{held_of}

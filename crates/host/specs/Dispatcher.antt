@@ -5,8 +5,16 @@ use Rattle.dispatch.specs.declared.Record.{Record}
 use Rattle.dispatch.specs.Record.{fresh_of}
 use Rattle.listing.specs.Listed.{listed_of}
 use Rattle.host.specs.Host.{table_in}
-use Rattle.host.specs.declared.dispatcher.LentStart.{LentStart}
-use Rattle.host.specs.declared.dispatcher.LentList.{LentList}
+
+-- what planning leaves in the record that is lent
+pub record LentStart : Type 0 where
+  pub refusal : ℕ
+  pub next : Record
+
+-- what a listing leaves in the length that is lent
+pub record LentList : Type 0 where
+  pub refusal : ℕ
+  pub len : ℤ
 
 -- planning of a byte table into a lent record: the fresh record, or the refusal and the record as it was
 unfoldable pub start_or : Record → ℕ → List ℕ → LentStart

@@ -2,7 +2,7 @@
 use Rattle.std.specs.Prelude.{ℕ, ◌%◌, cond, List, [], eqb, ℤ, pos, neg_ℤ, length}
 use Rattle.little_endian.specs.Number.{numbers_of}
 use Rattle.admission.specs.Admission.{plan_refusal}
-use Rattle.listing.specs.declared.listed.Listed.{Listed}
+use Rattle.listing.specs.Listed.{Listed}
 use Rattle.listing.specs.Listed.{table_listed, table_after}
 
 -- the table handed in; one that ends inside a number counts as empty, which planning refuses by the same number, 2

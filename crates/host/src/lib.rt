@@ -2,11 +2,13 @@
 #![tactic(auto)]
 
 ghost use Rattle.std.specs.Prelude.{◌≡◌, ◌<◌, ◌^◌, length};
+ghost use Rattle.listing.specs.Listed.{listing_told};
 ghost use Rattle.host.specs.Host.{admit_of, negative as negative_of, answered, host_listed, host_after};
 
 use crate::bytes::table_of;
 use admission::admit::admit;
-use listing::listed::{Listed, list_table};
+use listing::listed::list_table;
+use units::refusal::Refusal;
 
 mod bytes;
 pub mod dispatcher;
@@ -19,14 +21,14 @@ fn negative(number: u32) -> i64
 }
 
 // A listing's length, or the refusal number made negative.
-fn answer_of(listed: Listed) -> i64
-    requires { listed.length < 2 ^ 63 }
-    ensures { result ≡ answered listed }
+fn answer_of(listed: Result<usize, Refusal>) -> i64
+    requires { (listing_told listed).length < 2 ^ 63 }
+    ensures { result ≡ answered (listing_told listed) }
 {
-    if listed.refusal.no != 0 {
-        return negative(listed.refusal.no);
+    match listed {
+        Ok(length) => length as i64,
+        Err(refusal) => negative(refusal.reason.number()),
     }
-    listed.length as i64
 }
 
 // The admission number of a byte table: 0 or a refusal.
@@ -35,7 +37,10 @@ pub fn yagomila_admit(cores: u32, table: &[u8]) -> u32
     ensures { result ≡ admit_of cores table.now }
 {
     let held = table_of(table);
-    admit(cores, &held.numbers[..held.count]).refusal.no
+    match admit(cores, &held.numbers[..held.count]) {
+        Ok(_) => 0,
+        Err(refusal) => refusal.reason.number(),
+    }
 }
 
 // The listing's length, or the refusal number made negative; on a refusal no byte changes.

@@ -11,12 +11,12 @@ use Rattle.writing.proofs.Wrote.{whole}
 use Rattle.planning.specs.declared.Plan.{Plan}
 use Rattle.dispatch.specs.declared.Record.{Record}
 use Rattle.dispatch.specs.Sound.{sound_of}
-use Rattle.listing.specs.declared.listed.Listed.{Listed}
+use Rattle.listing.specs.Listed.{Listed}
 use Rattle.listing.specs.Listing.{listing_text}
 use Rattle.listing.specs.Listed.{unlisted, listed_whole, plan_listed, plan_after, listed_of, buffer_after, table_listed, table_after}
 use Rattle.units.specs.Refusals.{refusal, buffer_no, unsound_no}
 use Rattle.admission.specs.Admission.{plan_refusal}
-use Rattle.planning.specs.declared.Planned.{Planned}
+use Rattle.planning.specs.Plan.{Planned}
 use Rattle.planning.specs.Plan.{plan_of}
 use Rattle.soundness.specs.Plan.{plan_sound}
 use Rattle.soundness.proofs.PlannedSound.{plan_sound_lem}

@@ -1,18 +1,23 @@
 -- The calls for a listing, of a record and of a table: what they answer, and what they leave in the lent buffer.
-use Rattle.std.specs.Prelude.{ℕ, cond, List, ◌++◌, leb, eqb, length, drop}
+use Rattle.std.specs.Prelude.{ℕ, cond, List, ◌++◌, leb, eqb, length, drop, Result, Ok, Err}
 use Rattle.planning.specs.declared.Plan.{Plan}
 use Rattle.dispatch.specs.declared.Record.{Record}
 use Rattle.dispatch.specs.Sound.{sound_of}
 use Rattle.listing.specs.Listing.{listing_text}
-use Rattle.listing.specs.declared.listed.Listed.{Listed}
-use Rattle.units.specs.Refusals.{refusal, taken, buffer_no, unsound_no}
-use Rattle.units.specs.declared.refusal.Refusal.{Refusal}
+use Rattle.units.specs.declared.refusal.Refusal.{Refusal as Refused}
+use Rattle.units.specs.Refusals.{told, refusal, taken, buffer_no, unsound_no}
+use Rattle.units.specs.Refusals.{Refusal}
 use Rattle.admission.specs.Admission.{plan_refusal}
 use Rattle.planning.specs.Plan.{plan_of}
 
 -- bytes that hold the listing of any sound plan
 abbrev pub listing_limit : ℕ
 listing_limit = 15960
+
+-- the refusal, or none and the listing's length
+pub record Listed : Type 0 where
+  pub refusal : Refusal
+  pub length : ℕ
 
 -- a refusal and no listing
 abbrev pub unlisted : Refusal → Listed
@@ -21,6 +26,11 @@ unlisted r = record { refusal = r; length = 0 }
 -- a listing of so many bytes
 abbrev pub listed_whole : ℕ → Listed
 listed_whole n = record { refusal = taken; length = n }
+
+-- what the code's answer tells
+abbrev pub listing_told : Result ℕ Refused → Listed
+listing_told (Ok n) = listed_whole n
+listing_told (Err r) = unlisted (told r)
 
 -- a plan's listing in a buffer of so many bytes: refusal 14, or the listing's length
 unfoldable pub plan_listed : Plan → ℕ → Listed

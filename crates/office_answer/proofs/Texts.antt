@@ -9,7 +9,7 @@ use borrow.Author.Tests.{lt-ltb, le-ltb, ne_eqb, eqb-true, eqb-false, leb-true}
 use lib.Dec.{leb, eqb}
 use lib.ListN.{length, take, drop}
 use Rattle.lists.proofs.Tests.{by_cases}
-use Rattle.units.specs.declared.refusal.Refusal.{Refusal}
+use Rattle.units.specs.Refusals.{Refusal}
 use Rattle.units.specs.Refusals.{refusal, text_no, tick_no}
 use Rattle.writing.specs.Ascii.{newline}
 use Rattle.writing.specs.Wrote.{Wrote}
@@ -20,7 +20,7 @@ use Rattle.scanning.proofs.Fields.{rest_is}
 use Rattle.table_text.specs.Text.{Said, says, unreadable, text_of}
 use Rattle.tick_length.specs.Ticks.{tick_in}
 use Rattle.sheet_text.specs.Job.{nanos_bound}
-use Rattle.sheet_writing.specs.declared.Written.{Written}
+use Rattle.sheet_writing.specs.Write.{Written}
 use Rattle.sheet_writing.specs.Write.{write_refusal, sheet_for, fitted, fitted_after, written_of, written_after}
 use Rattle.sheet_writing.proofs.Refused.{wrong_tick}
 use Rattle.sheet_writing.proofs.Length.{sheet_short}

@@ -2,17 +2,17 @@
 #![tactic(auto)]
 
 ghost use Rattle.std.specs.Prelude.{◌≤◌, length};
-ghost use Rattle.units.specs.Refusals.{refusal};
+ghost use Rattle.units.specs.Refusals.{number, refusal};
 ghost use Rattle.writing.specs.Wrote.{Wrote};
 ghost use Rattle.writing.specs.Refused.{refusal_text};
 ghost use Rattle.office_answer.specs.Office.{written_text, after_word, office_text};
 
 use line_place::line_place;
 use scanning::line::read_field;
-use sheet_writing::{Written, write_sheet};
+use sheet_writing::write_sheet;
 use table_text::{NUMBERS, TableRead, read_text};
 use tick_length::tick_in;
-use units::refusal::Refusal;
+use units::refusal::{Reason, Refusal};
 use writing::NEWLINE;
 use writing::refused::put_refusal;
 
@@ -21,12 +21,19 @@ pub const ANSWER: usize = 4_096;
 // 10^15, which the tick length is below.
 const BOUND: u64 = 1_000_000_000_000_000;
 
-// The line of a refusal by its number and the line of the text that it names.
-fn put_refused(out: &mut [u8], no: u32, line: usize) -> usize
-    ensures wrote { Wrote out.old 0 (refusal_text (refusal no line)) out.new result }
+// The line of a refusal by its reason and the line of the text that it names.
+fn put_refused(out: &mut [u8], reason: Reason, line: usize) -> usize
+    ensures wrote { Wrote out.old 0 (refusal_text (refusal (number reason) line)) out.new result }
     ensures upper_bound { result ≤ 60 }
 {
-    put_refusal(out, 0, Refusal { no, named: line })
+    put_refusal(
+        out,
+        0,
+        Refusal {
+            reason,
+            named: line,
+        },
+    )
 }
 
 // A table and its names: the sheet, or the refusal's line.
@@ -35,11 +42,9 @@ fn put_written(out: &mut [u8], cores: u32, table: &[u32], names: &[u8], tick: u3
         out.new result }
     ensures upper_bound { result ≤ 4096 }
 {
-    let Written { refusal, length } = write_sheet(cores, table, names, tick, out);
-    if refusal.no == 0 {
-        length
-    } else {
-        put_refusal(out, 0, refusal)
+    match write_sheet(cores, table, names, tick, out) {
+        Ok(length) => length,
+        Err(refusal) => put_refusal(out, 0, refusal),
     }
 }
 
@@ -57,7 +62,7 @@ fn put_named(out: &mut [u8], cores: u32, table: &[u32], text: &[u8], at: usize) 
             &text[names..],
             tick as u32,
         ),
-        _ => put_refused(out, Refusal::TICK, 0),
+        _ => put_refused(out, Reason::Tick, 0),
     }
 }
 
@@ -69,7 +74,7 @@ pub fn answer(text: &[u8], out: &mut [u8]) -> usize
     let place = line_place(text, b"names ");
     let mut table = [0u32; NUMBERS];
     match read_text(&text[..place], &mut table) {
-        Err(line) => put_refused(out, Refusal::TEXT, line),
+        Err(line) => put_refused(out, Reason::Text, line),
         Ok(TableRead { cores, count }) if place < text.len() => put_named(
             out,
             cores,
@@ -77,6 +82,6 @@ pub fn answer(text: &[u8], out: &mut [u8]) -> usize
             text,
             place + 6,
         ),
-        Ok(TableRead { count, .. }) => put_refused(out, Refusal::TEXT, 2 + count / 2),
+        Ok(TableRead { count, .. }) => put_refused(out, Reason::Text, 2 + count / 2),
     }
 }

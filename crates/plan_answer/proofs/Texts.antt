@@ -13,7 +13,7 @@ use Rattle.writing.specs.Refused.{refusal_text}
 use Rattle.writing.proofs.Wrote.{fitted, recast}
 use Rattle.admission.specs.Admission.{plan_refusal}
 use Rattle.planning.specs.Plan.{plan_of}
-use Rattle.listing.specs.declared.listed.Listed.{Listed}
+use Rattle.listing.specs.Listed.{Listed}
 use Rattle.listing.specs.Listing.{listing_text}
 use Rattle.listing.proofs.TableFits.{table_length}
 use Rattle.listing.specs.Listed.{listing_limit, plan_listed, plan_after, table_listed, table_after}

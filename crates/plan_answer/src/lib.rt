@@ -8,7 +8,7 @@ ghost use Rattle.plan_answer.specs.Answer.{table_text, answer_text};
 
 use listing::listed::list_table;
 use table_text::{NUMBERS, TableRead, read_text};
-use units::refusal::Refusal;
+use units::refusal::{Reason, Refusal};
 use writing::refused::put_refusal;
 
 // Bytes that any answer fits.
@@ -19,11 +19,10 @@ fn put_table(out: &mut [u8], cores: u32, table: &[u32]) -> usize
     ensures wrote { Wrote out.old 0 (table_text (length out.old) cores table.now) out.new result }
     ensures upper_bound { result ≤ listing_limit }
 {
-    let listed = list_table(cores, table, out);
-    if listed.refusal.no != 0 {
-        return put_refusal(out, 0, listed.refusal);
+    match list_table(cores, table, out) {
+        Ok(length) => length,
+        Err(refusal) => put_refusal(out, 0, refusal),
     }
-    listed.length
 }
 
 // The program's answer to a text, and its length.
@@ -37,7 +36,7 @@ pub fn answer(text: &[u8], out: &mut [u8]) -> usize
             out,
             0,
             Refusal {
-                no: Refusal::TEXT,
+                reason: Reason::Text,
                 named: line,
             },
         ),

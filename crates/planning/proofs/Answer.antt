@@ -11,7 +11,7 @@ use Rattle.arith.specs.Period.{periods, common}
 use Rattle.admission.specs.Weight.{weights, padded}
 use Rattle.units.specs.Refusals.{taken}
 use Rattle.admission.specs.Admission.{plan_refusal, refused_with, taken_with, admission_of}
-use Rattle.admission.specs.declared.admit.Admission.{Admission}
+use Rattle.admission.specs.Admission.{Admission}
 use Rattle.admission.proofs.Admitting.{passed}
 use Rattle.admission.proofs.Answers.{says_refusal, says_refused_lem, says_taken}
 use Rattle.admission.proofs.Kept.{Kept, kept}

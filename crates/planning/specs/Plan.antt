@@ -1,17 +1,17 @@
 -- A plan: cores M, the common period L, the tasks, and a line for each of sixty-four tasks.
-use Rattle.std.specs.Prelude.{ℕ, ◌-◌, ◌/◌, cond, List, [], ◌∷◌, ◌++◌, map, eqb, length, replicate}
+use Rattle.std.specs.Prelude.{ℕ, ◌-◌, ◌/◌, cond, List, [], ◌∷◌, ◌++◌, map, eqb, length, replicate, Result, Ok, Err}
 use Rattle.units.specs.Limits.{cores_limit, tasks_limit}
 use Rattle.units.specs.Units.{share, duration, nums, units}
 use Rattle.lists.specs.Lists.{zeros}
 use Rattle.arith.specs.Period.{periods, common}
 use Rattle.admission.specs.Weight.{weights, padded}
 use Rattle.admission.specs.Admission.{plan_refusal}
-use Rattle.units.specs.Refusals.{taken}
+use Rattle.units.specs.Refusals.{taken, told}
+use Rattle.units.specs.declared.refusal.Refusal.{Refusal as Refused}
 use Rattle.assignment.specs.Passes.{shares_of, rooms}
-use Rattle.units.specs.declared.refusal.Refusal.{Refusal}
+use Rattle.units.specs.Refusals.{Refusal}
 use Rattle.planning.specs.declared.Line.{Line}
 use Rattle.planning.specs.declared.Plan.{Plan}
-use Rattle.planning.specs.declared.Planned.{Planned}
 
 -- a task's line: cost, period, weight and shares
 abbrev pub line : ℕ → ℕ → ℕ → List ℕ → Line
@@ -50,6 +50,11 @@ plan_for m l ws xs = record {
   lines = padded_lines (lines_of xs ws (shares_of ws (rooms m l)));
 }
 
+-- the refusal and the empty plan, or none and the plan
+pub record Planned : Type 0 where
+  pub refusal : Refusal
+  pub plan : Plan
+
 -- a refusal and the empty plan
 unfoldable pub refused_plan : Refusal → Planned
 refused_plan r = record { refusal = r; plan = empty_plan }
@@ -64,6 +69,11 @@ plan_of m xs =
     cond (eqb (plan_refusal m xs).no 0)
     (taken_plan (plan_for m (common (periods xs)) (padded (weights (common (periods xs)) xs)) xs))
     (refused_plan (plan_refusal m xs))
+
+-- what the code's answer tells
+abbrev pub plan_told : Result Plan Refused → Planned
+plan_told (Ok pl) = taken_plan pl
+plan_told (Err r) = refused_plan (told r)
 
 -- a line's row of shares
 abbrev pub row_of : Line → List ℕ

@@ -5,9 +5,9 @@ ghost use Rattle.std.specs.Prelude.{◌≡◌, ◌*◌, ◌≤◌, length};
 ghost use Rattle.units.specs.Limits.{cores_limit, tasks_limit};
 ghost use Rattle.units.specs.Units.{nums};
 ghost use Rattle.assignment.specs.Passes.{rooms, rows_of};
-ghost use Rattle.planning.specs.Plan.{lines_of, padded_lines, plan_for, plan_of};
+ghost use Rattle.planning.specs.Plan.{lines_of, padded_lines, plan_for, plan_of, plan_told};
 
-use admission::admit::admit;
+use admission::admit::{Admitted, admit};
 use assignment::{Row, shares_of};
 use units::limits::{CORES, TASKS};
 use units::refusal::Refusal;
@@ -41,23 +41,6 @@ pub struct Plan {
     pub common: u32,
     pub count: usize,
     pub lines: [Line; TASKS],
-}
-
-impl Plan {
-    // Of a refused list.
-    pub const EMPTY: Plan = Plan {
-        cores: 0,
-        common: 0,
-        count: 0,
-        lines: [Line::EMPTY; TASKS],
-    };
-}
-
-// The refusal and the empty plan, or none and the plan.
-#[derive(Clone, Copy)]
-pub struct Planned {
-    pub refusal: Refusal,
-    pub plan: Plan,
 }
 
 // The room of empty cores: L on each of them, none on the others.
@@ -103,18 +86,10 @@ fn drawn(cores: u32, table: &[u32], common: u32, weights: [Share; TASKS]) -> Pla
     }
 }
 
-// The plan of a table on a number of cores.
-pub fn plan_of(cores: u32, table: &[u32]) -> Planned
-    ensures { result ≡ plan_of cores table.now }
+// The plan of a table on a number of cores, or the first refusal that applies.
+pub fn plan_of(cores: u32, table: &[u32]) -> Result<Plan, Refusal>
+    ensures { plan_told result ≡ plan_of cores table.now }
 {
-    let answer = admit(cores, table);
-    let refusal = answer.refusal;
-    if refusal.no != 0 {
-        return Planned {
-            refusal,
-            plan: Plan::EMPTY,
-        };
-    }
-    let plan = drawn(cores, table, answer.common, answer.weights);
-    Planned { refusal, plan }
+    let Admitted { common, weights } = admit(cores, table)?;
+    Ok(drawn(cores, table, common, weights))
 }

@@ -8,7 +8,7 @@ use lib.ListN.{length, take}
 use Rattle.units.specs.Refusals.{refusal, text_no}
 use Rattle.writing.specs.Refused.{refusal_text}
 use Rattle.table_text.specs.Text.{Said, says, unreadable, text_of}
-use Rattle.dispatch.specs.declared.plan.Fresh.{Fresh}
+use Rattle.dispatch.specs.Record.{Fresh}
 use Rattle.dispatch.specs.Record.{fresh_of}
 use Rattle.calls_text.specs.Input.{input_limit, plays, bad_call, calls_place, after_calls, after_table, input_of}
 use Rattle.player.specs.Played.{answers_text, fresh_text, given_text, table_played, play_text}

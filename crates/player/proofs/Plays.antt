@@ -12,7 +12,7 @@ use Rattle.writing.specs.Wrote.{Wrote}
 use Rattle.writing.proofs.Wrote.{none, then, recast}
 use Rattle.dispatch.specs.declared.Record.{Record}
 use Rattle.dispatch.specs.declared.call.Call.{Call}
-use Rattle.dispatch.specs.declared.call.Answered.{Answered}
+use Rattle.dispatch.specs.Calls.{Answered}
 use Rattle.dispatch.specs.Calls.{answered_of}
 use Rattle.calls_text.specs.Line.{call_line}
 use Rattle.calls_text.specs.Input.{input_limit, then_calls, calls_from}

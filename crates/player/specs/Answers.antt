@@ -5,8 +5,8 @@ use Rattle.writing.specs.Ascii.{ascii}
 use Rattle.writing.specs.Decimal.{signed_of}
 use Rattle.writing.specs.Field.{field, line_end}
 use Rattle.writing.specs.Refused.{refusal_text}
-use Rattle.dispatch.specs.declared.call.Answer.{Answer}
-use Rattle.dispatch.specs.declared.call.Answer.TheVariants.{Refused, Released, Finished, Looked}
+use Rattle.dispatch.specs.Calls.{Answer}
+use Rattle.dispatch.specs.Calls.Answer.{Refused, Released, Finished, Looked}
 use Rattle.core_choice.specs.declared.Side.{Side}
 use Rattle.core_choice.specs.declared.Side.TheVariants.{Upper, Lower}
 use Rattle.core_choice.specs.declared.Choice.{Choice}

@@ -3,7 +3,7 @@ use Rattle.std.specs.Prelude.{ℕ, cond, List, [], ◌∷◌, ◌++◌, eqb, len
 use Rattle.units.specs.Refusals.{refusal, text_no}
 use Rattle.writing.specs.Refused.{refusal_text}
 use Rattle.dispatch.specs.declared.Record.{Record}
-use Rattle.dispatch.specs.declared.plan.Fresh.{Fresh}
+use Rattle.dispatch.specs.Record.{Fresh}
 use Rattle.dispatch.specs.Record.{fresh_of}
 use Rattle.dispatch.specs.declared.call.Call.{Call}
 use Rattle.dispatch.specs.Calls.{answered_of, step}

@@ -4,10 +4,12 @@ ghost use Rattle.writing.specs.Decimal.{decimal_of};
 ghost use Rattle.writing.specs.Field.{field};
 ghost use Rattle.writing.specs.Inner.{place_limit};
 ghost use Rattle.writing.specs.Wrote.{Wrote};
+ghost use Rattle.dispatch.specs.Calls.{call_told};
 ghost use Rattle.player.specs.Answers.{mover_text, choice_text, answer_line};
 
 use core_choice::{Choice, Side};
 use dispatch::call::Answer;
+use units::refusal::{Reason, Refusal};
 use units::ticks::Ticks;
 use writing::refused::put_refusal;
 use writing::{NEWLINE, put_byte, put_field, put_signed, put_text};
@@ -48,24 +50,24 @@ fn put_choice(buf: &mut [u8], at: usize, choice: Choice) -> usize
 }
 
 // A call's answer, a line.
-pub(crate) fn put_answer(buf: &mut [u8], at: usize, answer: Answer) -> usize
+pub(crate) fn put_answer(buf: &mut [u8], at: usize, answer: Result<Answer, Reason>) -> usize
     requires { at + 60 ≤ place_limit }
-    ensures wrote { Wrote buf.old at (answer_line answer) buf.new result }
+    ensures wrote { Wrote buf.old at (answer_line (call_told answer)) buf.new result }
     ensures upper_bound { result ≤ at + 60 }
 {
     match answer {
-        Answer::Refused(refusal) => put_refusal(buf, at, refusal),
-        Answer::Released(core, deadline) => {
+        Err(reason) => put_refusal(buf, at, Refusal::from(reason)),
+        Ok(Answer::Released(core, deadline)) => {
             let a = put_field(buf, at, b"core ", core as u64);
             let b = put_field(buf, a, b" deadline ", deadline.0);
             put_byte(buf, b, NEWLINE)
         }
-        Answer::Finished(late) => {
+        Ok(Answer::Finished(late)) => {
             let a = put_text(buf, at, b"late ");
             let b = put_signed(buf, a, late);
             put_byte(buf, b, NEWLINE)
         }
-        Answer::Looked(choice) => {
+        Ok(Answer::Looked(choice)) => {
             let a = put_choice(buf, at, choice);
             put_byte(buf, a, NEWLINE)
         }

@@ -11,7 +11,7 @@ use calls_text::INPUT;
 use calls_text::calls::{calls_place, first_bad};
 use dispatch::Record;
 use table_text::{NUMBERS, TableRead, read_text};
-use units::refusal::Refusal;
+use units::refusal::{Reason, Refusal};
 use writing::refused::put_refusal;
 
 // Bytes of the answers to an input, at most.
@@ -26,7 +26,7 @@ fn put_unreadable(out: &mut [u8], line: usize) -> usize
         out,
         0,
         Refusal {
-            no: Refusal::TEXT,
+            reason: Reason::Text,
             named: line,
         },
     )
@@ -56,13 +56,10 @@ fn play_taken(text: &[u8], from: usize, cores: u32, table: &[u32], out: &mut [u8
     ensures wrote { Wrote out.old 0 (given_text text.now (plays cores table.now from)) out.new result }
     ensures upper_bound { result ≤ answers_limit }
 {
-    let fresh = Record::fresh(cores, table);
-    let refusal = fresh.refusal;
-    if refusal.no != 0 {
-        return put_refusal(out, 0, refusal);
+    match Record::fresh(cores, table) {
+        Ok(first) => play_calls(text, from, first, out),
+        Err(refusal) => put_refusal(out, 0, refusal),
     }
-    let first = fresh.next;
-    play_calls(text, from, first, out)
 }
 
 // The answers to an input's calls, or its refusal, and their length.

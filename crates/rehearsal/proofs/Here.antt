@@ -21,7 +21,7 @@ use Rattle.fronts.specs.declared.Front.{Front}
 use Rattle.fronts.specs.Front.{no_front, front_of}
 use Rattle.seats.specs.declared.Seat.{Seat}
 use Rattle.seats.specs.declared.Ended.{Ended}
-use Rattle.seats.specs.declared.Arrived.{Arrived}
+use Rattle.seats.specs.Seat.{Arrived}
 use Rattle.seats.specs.Seat.{seat, no_seat, arrived_of, ended_of}
 use Rattle.goings.specs.declared.Going.{Going}
 use Rattle.instants.specs.declared.Seen.{Seen}

@@ -28,7 +28,7 @@ use Rattle.run_lengths.specs.Work.{fresh_work, no_work, without_length}
 use Rattle.fronts.specs.Front.{no_front}
 use Rattle.fronts.specs.Inner.{Frontable}
 use Rattle.seats.specs.declared.Ended.{Ended}
-use Rattle.seats.specs.declared.Arrived.{Arrived}
+use Rattle.seats.specs.Seat.{Arrived}
 use Rattle.seats.specs.Seat.{seat, fresh_seat, no_seat, arrived_of, ended_of}
 use Rattle.seats.specs.Inner.{Arrivable, Endable}
 use Rattle.day_lines.specs.Lines.{event_text, events_text}

@@ -106,7 +106,7 @@ pub(crate) fn rehearse(
             let length = arrivals[3 * desk.next + 2];
             desk.next += 1;
             let arrived = desk.seats[i].arrive(plan.lines[i], time, length);
-            desk.end = put_arrival(out, skip, desk.end, arrived.refusal, desk.next, i + 1, time);
+            desk.end = put_arrival(out, skip, desk.end, arrived.taken, desk.next, i + 1, time);
             desk.seats[i] = arrived.seat;
             store_front(fronts, i, arrived.front);
         } else {

@@ -6,10 +6,10 @@ use mathlib.Core.List.{List}
 use borrow.Author.Tests.{lt-ltb, le-ltb, ne_eqb}
 use Rattle.units.specs.Limits.{clock_limit}
 use Rattle.units.specs.Refusals.{refusal, clock_no, text_no, arrival_no}
-use Rattle.units.specs.declared.refusal.Refusal.{Refusal}
+use Rattle.units.specs.Refusals.{Refusal}
 use Rattle.writing.specs.Refused.{refusal_text}
 use Rattle.planning.specs.declared.Plan.{Plan}
-use Rattle.planning.specs.declared.Planned.{Planned}
+use Rattle.planning.specs.Plan.{Planned}
 use Rattle.planning.specs.Plan.{plan_of}
 use Rattle.planning.specs.Shape.{PlanShaped}
 use Rattle.soundness.specs.Plan.{plan_sound}

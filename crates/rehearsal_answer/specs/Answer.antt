@@ -2,10 +2,10 @@
 use Rattle.std.specs.Prelude.{ℕ, ◌+◌, Bool, cond, List, ltb, eqb}
 use Rattle.units.specs.Limits.{clock_limit}
 use Rattle.units.specs.Refusals.{refusal, clock_no, text_no, arrival_no}
-use Rattle.units.specs.declared.refusal.Refusal.{Refusal}
+use Rattle.units.specs.Refusals.{Refusal}
 use Rattle.writing.specs.Refused.{refusal_text}
 use Rattle.planning.specs.declared.Plan.{Plan}
-use Rattle.planning.specs.declared.Planned.{Planned}
+use Rattle.planning.specs.Plan.{Planned}
 use Rattle.planning.specs.Plan.{plan_of}
 use Rattle.arrivals.specs.Arrivals.{arrivals_in, arrivals_refusal}
 use Rattle.day_rules.specs.Day.{day_text}

@@ -1,6 +1,7 @@
 // What the program `rehearse` writes: a table's text, a stop and arrivals in, the day's lines or the refusal's out, piece by piece.
 #![tactic(auto)]
 
+ghost use Rattle.units.specs.Refusals.{told};
 ghost use Rattle.planning.specs.Plan.{plan_of};
 ghost use Rattle.writing.specs.Refused.{refusal_text};
 ghost use Rattle.day_window.specs.Window.{Windowed};
@@ -13,7 +14,7 @@ use planning::{Plan, plan_of};
 use rehearsal::ending::write_day;
 use table_text::NUMBERS;
 use units::limits::CLOCK;
-use units::refusal::Refusal;
+use units::refusal::{Reason, Refusal};
 use units::ticks::Ticks;
 use writing::put_text;
 use writing::refused::put_refusal;
@@ -31,7 +32,7 @@ struct Day<'a> {
 
 // A refusal's line from a byte on, as far as the buffer reaches, and the line's length.
 fn put_refusal_within(out: &mut [u8], skip: usize, refusal: Refusal) -> usize
-    ensures { Windowed out.old skip 0 (refusal_text refusal) out.new result }
+    ensures { Windowed out.old skip 0 (refusal_text (told refusal)) out.new result }
 {
     let mut line = [0u8; LINE];
     let n = put_refusal(&mut line, 0, refusal);
@@ -46,8 +47,7 @@ fn put_tested(plan: Plan, day: Day, skip: usize, out: &mut [u8]) -> usize
     requires { Stoppable plan day.stop }
     ensures { Windowed out.old skip 0 (tested_text plan day.entry.stop day.entry.arrivals.now day.entry.more) out.new result }
 {
-    let refusal = arrivals_refusal(plan, day.arrivals);
-    if refusal.no != 0 {
+    if let Err(refusal) = arrivals_refusal(plan, day.arrivals) {
         return put_refusal_within(out, skip, refusal);
     }
     if day.more {
@@ -55,7 +55,7 @@ fn put_tested(plan: Plan, day: Day, skip: usize, out: &mut [u8]) -> usize
             out,
             skip,
             Refusal {
-                no: Refusal::ARRIVAL,
+                reason: Reason::Arrival,
                 named: day.arrivals.len() / 3 + 1,
             },
         );
@@ -67,22 +67,15 @@ fn put_tested(plan: Plan, day: Day, skip: usize, out: &mut [u8]) -> usize
 fn put_planned(cores: u32, table: &[u32], day: Day, skip: usize, out: &mut [u8]) -> usize
     ensures { Windowed out.old skip 0 (planned_text (plan_of cores table.now) day.entry.stop day.entry.arrivals.now day.entry.more) out.new result }
 {
-    let planned = plan_of(cores, table);
-    let refusal = planned.refusal;
-    if refusal.no != 0 {
-        return put_refusal_within(out, skip, refusal);
+    match plan_of(cores, table) {
+        Err(refusal) => put_refusal_within(out, skip, refusal),
+        Ok(plan) => {
+            if CLOCK < day.stop {
+                return put_refusal_within(out, skip, Refusal::from(Reason::Clock));
+            }
+            put_tested(plan, day, skip, out)
+        }
     }
-    if CLOCK < day.stop {
-        return put_refusal_within(
-            out,
-            skip,
-            Refusal {
-                no: Refusal::CLOCK,
-                named: 0,
-            },
-        );
-    }
-    put_tested(planned.plan, day, skip, out)
 }
 
 // The program's answer to an input from a byte on, as far as the buffer reaches, and the whole answer's length.
@@ -96,7 +89,7 @@ pub fn answer(text: &[u8], skip: usize, out: &mut [u8]) -> usize
             out,
             skip,
             Refusal {
-                no: Refusal::TEXT,
+                reason: Reason::Text,
                 named: line,
             },
         ),

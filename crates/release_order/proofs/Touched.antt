@@ -16,7 +16,7 @@ use Rattle.task_state.proofs.Passed.{has_run}
 use Rattle.dispatch.specs.declared.Record.{Record}
 use Rattle.dispatch.specs.declared.call.Call.{Call}
 use Rattle.dispatch.specs.declared.call.Call.TheVariants.{Release, Finish, Look}
-use Rattle.dispatch.specs.declared.look.Looked.{Looked}
+use Rattle.dispatch.specs.Look.{Looked}
 use Rattle.dispatch.specs.Shape.{Good}
 use Rattle.dispatch.specs.Calls.{answered_of, call_refusal, step}
 use Rattle.dispatch.specs.Given.{task_state}

@@ -3,8 +3,8 @@ use Rattle.std.specs.Prelude.{ℕ, ◌+◌, ◌-◌, ◌≤◌, ◌<◌, cond, L
 use Rattle.planning.specs.Tasks.{task_line}
 use Rattle.dispatch.specs.declared.Record.{Record}
 use Rattle.dispatch.specs.declared.call.Call.{Call}
-use Rattle.dispatch.specs.declared.call.Answer.{Answer}
-use Rattle.dispatch.specs.declared.call.Answer.TheVariants.{Refused, Released, Finished, Looked}
+use Rattle.dispatch.specs.Calls.{Answer}
+use Rattle.dispatch.specs.Calls.Answer.{Refused, Released, Finished, Looked}
 use Rattle.dispatch.specs.Calls.{answered_of, time_of, step, releases}
 
 -- an accepted release: its call's time, and its release time

@@ -3,6 +3,8 @@ use Rattle.std.specs.Prelude.{ℕ, cond, eqb}
 use Rattle.std.proofs.Math.IntN.{sub_ℕ}
 use Rattle.planning.specs.declared.Line.{Line}
 use Rattle.task_state.specs.declared.State.{State}
+use Rattle.units.specs.Refusals.{number_said}
+use Rattle.fronts.specs.declared.Front.{Front}
 use Rattle.task_state.specs.State.{fresh_state, no_state}
 use Rattle.task_state.specs.Due.{release_at}
 use Rattle.task_state.specs.Runs.{with_run, without_run}
@@ -12,7 +14,7 @@ use Rattle.run_lengths.specs.declared.Work.{Work}
 use Rattle.run_lengths.specs.Work.{fresh_work, no_work, with_length, without_length}
 use Rattle.fronts.specs.Front.{front_of}
 use Rattle.seats.specs.declared.Seat.{Seat}
-use Rattle.seats.specs.declared.Arrived.{Arrived}
+use Rattle.seats.specs.declared.Arrived.{Arrived as Told}
 use Rattle.seats.specs.declared.Ended.{Ended}
 
 -- a task's state and lengths
@@ -27,6 +29,12 @@ fresh_seat = seat fresh_state fresh_work
 abbrev pub no_seat : Seat
 no_seat = seat no_state no_work
 
+-- an arrival's refusal, 0 if it is taken; the task after it, and its front
+pub record Arrived : Type 0 where
+  pub refusal : ℕ
+  pub seat : Seat
+  pub front : Front
+
 -- a run of n ticks arrives at t: taken, or refused and nothing changed
 unfoldable pub arrived_of : Line → State → Work → ℕ → ℕ → Arrived
 arrived_of ln st wk t n =
@@ -38,6 +46,10 @@ arrived_of ln st wk t n =
       seat = cond ok (seat more lengths) (seat st wk);
       front = cond ok (front_of ln more lengths) (front_of ln st wk);
     }
+
+-- what the code's answer tells
+abbrev pub arrival_told : Told → Arrived
+arrival_told a = record { refusal = number_said a.taken; seat = a.seat; front = a.front }
 
 -- the oldest run ends at t
 unfoldable pub ended_of : Line → State → Work → ℕ → Ended

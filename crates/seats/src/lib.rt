@@ -2,13 +2,14 @@
 #![tactic(auto)]
 
 ghost use Rattle.std.specs.Prelude.{◌≡◌};
-ghost use Rattle.seats.specs.Seat.{arrived_of, ended_of};
+ghost use Rattle.seats.specs.Seat.{arrival_told, arrived_of, ended_of};
 ghost use Rattle.seats.specs.Inner.{Arrivable, Endable};
 
 use fronts::{Front, front_of};
 use planning::Line;
 use run_lengths::Work;
 use task_state::State;
+use units::refusal::Reason;
 use units::ticks::Ticks;
 
 // A task's state, and its runs' lengths.
@@ -25,10 +26,10 @@ impl Seat {
     };
 }
 
-// An arrival's refusal, 0 if it is taken; the task after it, and its front.
+// Whether an arrival is taken; the task after it, and its front.
 #[derive(Clone, Copy)]
 pub struct Arrived {
-    pub refusal: u32,
+    pub taken: Result<(), Reason>,
     pub seat: Seat,
     pub front: Front,
 }
@@ -46,13 +47,13 @@ impl Seat {
     #[tactic(auto, unfolding(crate::specs::Seat::arrived_of, task_state::specs::Runs::taken_run))]
     pub fn arrive(self, line: Line, time: Ticks, length: u64) -> Arrived
         requires { Arrivable line self.state self.work time.0 length }
-        ensures { result ≡ arrived_of line self.state self.work time.0 length }
+        ensures { arrival_told result ≡ arrived_of line self.state self.work time.0 length }
     {
         let Seat { state, work } = self;
-        let no = state.release_tests(line, time);
-        if no != 0 {
+        let taken = state.release_tests(line, time);
+        if taken.is_err() {
             return Arrived {
-                refusal: no,
+                taken,
                 seat: self,
                 front: front_of(line, state, work),
             };
@@ -60,7 +61,7 @@ impl Seat {
         let after = state.with_run(line, time).state;
         let more = work.with_run(state.live as usize, length);
         Arrived {
-            refusal: 0,
+            taken,
             seat: Seat {
                 state: after,
                 work: more,

@@ -1,13 +1,17 @@
 -- The answers of both programs, as the code meets them.
 use Rattle.std.specs.declared.option.Option.TheVariants.{Some, None}
+use Rattle.std.specs.declared.result.Result.{Result}
+use Rattle.std.specs.declared.result.Result.TheVariants.{Ok, Err}
+use Rattle.std.specs.Result.{result_unwrap_or}
 use Prim.Native.Nat.{ℕ, ◌≤◌}
-use mathlib.Core.Path.{◌≡◌, refl, sym, ◌∙◌, subst}
+use mathlib.Core.Path.{◌≡◌, refl, sym, ap, ◌∙◌, subst}
 use mathlib.Core.List.{List}
 use native.Mathlib.Omega.{arith}
 use borrow.Author.Tests.{ne_eqb, le-leb}
 use lib.ListN.{length, take, length-take}
 use lib.Seq.{length-sets}
 use Rattle.lists.specs.Lists.{zeros}
+use Rattle.units.specs.declared.refusal.Refusal.{Refusal as Refused}
 use Rattle.soundness.proofs.Taken.{plan_number, plan_kept}
 use Rattle.soundness.proofs.PlannedSound.{plan_sound_lem}
 use Rattle.soundness.proofs.PlannedShape.{started_plan}
@@ -18,13 +22,13 @@ use Rattle.writing.proofs.Wrote.{then, fitted}
 use Rattle.scanning.specs.Number.{Number}
 use Rattle.table_text.specs.Text.{cores_line}
 use Rattle.listing.specs.Listing.{listing_text}
-use Rattle.listing.specs.Listed.{listing_limit, plan_listed, plan_after}
-use Rattle.listing.specs.declared.listed.Listed.{Listed}
+use Rattle.listing.specs.Listed.{listing_limit, listing_told, plan_listed, plan_after}
+use Rattle.listing.specs.Listed.{Listed}
 use Rattle.listing.proofs.Fits.{listing_length}
 use Rattle.name_list.specs.Names.{names_text, names_of}
 use Rattle.sheet_text.specs.Job.{names_in, ticks_in}
 use Rattle.sheet_reading.specs.Read.{names_limit, unread, plan_sheet}
-use Rattle.sheet_reading.specs.declared.Sheet.{Sheet}
+use Rattle.sheet_reading.specs.Read.{Sheet}
 use Rattle.sheet_reading.proofs.Taken.{Taken, is_taken, names_short}
 use Rattle.sheet_answer.specs.Inner.{answer_limit, Listable}
 use Rattle.sheet_answer.specs.Input.{after_cores, input_sheet}
@@ -51,15 +55,22 @@ listable s {sh} e h = rw e (go (cores_line s) (rw e at h))
     go (Some (m, at)) k = taken_listable (is_taken m _ k)
     go None k = absurd (omega (arith, k))
 
+-- what is taken of an answer where there is none is no length
+told_length : (x : Result ℕ Refused) → (listing_told x).length ≡ result_unwrap_or x 0
+told_length (Ok n) = refl
+told_length (Err r) = refl
+
 -- the listing of such a sheet's plan, in a buffer that holds any answer
-pub listed : {sh : Sheet} (g : Listable sh) {a b : List ℕ} {l : Listed} (room : answer_limit ≤ length a) → l ≡ plan_listed sh.plan (length a)
-    → b ≡ plan_after sh.plan a → Wrote a 0 (listing_text sh.plan) b l.length × (l.length ≤ listing_limit)
+pub listed : {sh : Sheet} (g : Listable sh) {a b : List ℕ} (x : Result ℕ Refused) {n : ℕ} (room : answer_limit ≤ length a)
+    → listing_told x ≡ plan_listed sh.plan (length a) → b ≡ plan_after sh.plan a → n ≡ result_unwrap_or x 0
+    → Wrote a 0 (listing_text sh.plan) b n × (n ≤ listing_limit)
 unfolding plan_listed plan_after
-listed {sh} g {a} room e f =
+listed {sh} g {a} {b} x {n} room e f p =
     let short : length (listing_text sh.plan) ≤ listing_limit = listing_length sh.plan g.shaped g.sound in
     let h : length (listing_text sh.plan) ≤ length a = omega (arith, short, room) in
     let z = le-leb (length (listing_text sh.plan)) (length a) h in
-    rw (e, f, z) (fitted h, short)
+    let q : n ≡ length (listing_text sh.plan) = p ∙ sym (told_length x) ∙ ap (λ (l : Listed). l.length) (rw z at e) in
+    rw (q, f, z) (fitted h, short)
 
 -- the names of such a sheet
 pub names_few : {sh : Sheet} → Listable sh → length (take sh.length sh.names) ≤ names_limit

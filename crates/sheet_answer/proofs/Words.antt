@@ -26,7 +26,7 @@ use Rattle.sheet_text.specs.Grammar.{Says, sheet}
 use Rattle.sheet_text.proofs.Says.{good_names}
 use Rattle.sheet_text.proofs.EverySheet.{reads}
 use Rattle.sheet_reading.specs.Read.{names_limit, unread, plan_sheet}
-use Rattle.sheet_reading.specs.declared.Sheet.{Sheet}
+use Rattle.sheet_reading.specs.Read.{Sheet}
 use Rattle.sheet_reading.proofs.Taken.{Taken, read_sheet, names_short}
 use Rattle.sheet_reading.proofs.Words.{sheet_taken}
 use Rattle.sheet_answer.specs.Input.{after_cores, input_sheet}

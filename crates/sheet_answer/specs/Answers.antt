@@ -8,7 +8,7 @@ use Rattle.planning.specs.declared.Line.{Line}
 use Rattle.planning.specs.declared.Plan.{Plan}
 use Rattle.table_text.specs.Grammar.{cores_written, tasks_written}
 use Rattle.listing.specs.Listing.{listing_text}
-use Rattle.sheet_reading.specs.declared.Sheet.{Sheet}
+use Rattle.sheet_reading.specs.Read.{Sheet}
 use Rattle.sheet_answer.specs.Input.{input_sheet}
 
 -- a line for each task's name, numbered from i: `name 1 cam`

@@ -5,7 +5,7 @@ use Rattle.planning.specs.declared.Plan.{Plan}
 use Rattle.planning.specs.Shape.{PlanShaped}
 use Rattle.soundness.specs.Plan.{plan_sound}
 use Rattle.sheet_reading.specs.Read.{names_limit}
-use Rattle.sheet_reading.specs.declared.Sheet.{Sheet}
+use Rattle.sheet_reading.specs.Read.{Sheet}
 
 -- bytes of any answer, at most
 abbrev pub answer_limit : ℕ

@@ -4,7 +4,7 @@ use Rattle.units.specs.Refusals.{refusal, text_no}
 use Rattle.scanning.specs.Number.{Number}
 use Rattle.table_text.specs.Text.{cores_line}
 use Rattle.sheet_reading.specs.Read.{unread, plan_sheet}
-use Rattle.sheet_reading.specs.declared.Sheet.{Sheet}
+use Rattle.sheet_reading.specs.Read.{Sheet}
 
 -- what stands after M's line is the sheet; where that line cannot be read, 16 names line 1
 unfoldable pub after_cores : List ℕ → Number → Sheet

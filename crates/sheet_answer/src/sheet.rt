@@ -1,17 +1,18 @@
 // What `sheet` writes: the listing, the tick length and a name for each task.
-ghost use Rattle.std.specs.Prelude.{true, ◌≡◌, ◌∷◌, ◌++◌, ◌+◌, ◌*◌, ◌≤◌, length};
+ghost use Rattle.std.specs.Prelude.{Ok, true, ◌≡◌, ◌∷◌, ◌++◌, ◌+◌, ◌*◌, ◌≤◌, length};
 ghost use Rattle.writing.specs.Ascii.{blank};
 ghost use Rattle.writing.specs.Field.{field, line_end};
 ghost use Rattle.writing.specs.Inner.{place_limit};
 ghost use Rattle.writing.specs.Wrote.{Wrote};
 ghost use Rattle.name_list.specs.Names.{names_of};
+ghost use Rattle.sheet_reading.specs.Read.{sheet_told};
 ghost use Rattle.sheet_answer.specs.Inner.{Listable, answer_limit};
 ghost use Rattle.sheet_answer.specs.Answers.{name_lines, named_listing, sheet_text};
 
 use crate::input::read_input;
 use listing::listed::list_plan;
 use names::name::name_end;
-use sheet_reading::Sheet;
+use sheet_reading::PlannedSheet;
 use writing::refused::put_refusal;
 use writing::{BLANK, NEWLINE, put_byte, put_field, put_text};
 
@@ -49,13 +50,13 @@ fn put_name_lines(buf: &mut [u8], at: usize, names: &[u8]) -> usize
 }
 
 // A sheet that is taken.
-fn put_taken(out: &mut [u8], sheet: Sheet) -> usize
-    requires { Listable sheet × (answer_limit ≤ length out.old) }
-    ensures wrote { Wrote out.old 0 (named_listing sheet) out.new result }
+fn put_taken(out: &mut [u8], sheet: PlannedSheet) -> usize
+    requires { Listable (sheet_told (Ok sheet)) × (answer_limit ≤ length out.old) }
+    ensures wrote { Wrote out.old 0 (named_listing (sheet_told (Ok sheet))) out.new result }
     ensures upper_bound { result ≤ answer_limit }
 {
-    let listed = list_plan(sheet.plan, out);
-    let a = put_field(out, listed.length, b"tick ", sheet.tick as u64);
+    let length = list_plan(sheet.plan, out).unwrap_or(0);
+    let a = put_field(out, length, b"tick ", sheet.tick as u64);
     let b = put_byte(out, a, NEWLINE);
     put_name_lines(out, b, &sheet.names[..sheet.length])
 }
@@ -66,10 +67,8 @@ pub fn answer_sheet(text: &[u8], out: &mut [u8]) -> usize
     ensures wrote { Wrote out.old 0 (sheet_text text.now) out.new result }
     ensures upper_bound { result ≤ answer_limit }
 {
-    let sheet = read_input(text);
-    if sheet.refusal.no == 0 {
-        put_taken(out, sheet)
-    } else {
-        put_refusal(out, 0, sheet.refusal)
+    match read_input(text) {
+        Ok(sheet) => put_taken(out, sheet),
+        Err(refusal) => put_refusal(out, 0, refusal),
     }
 }

@@ -56,10 +56,8 @@ pub fn answer_table(text: &[u8], out: &mut [u8]) -> usize
     ensures wrote { Wrote out.old 0 (table_text text.now) out.new result }
     ensures upper_bound { result ≤ 4096 }
 {
-    let sheet = read_input(text);
-    if sheet.refusal.no == 0 {
-        put_plan(out, sheet.plan)
-    } else {
-        put_refusal(out, 0, sheet.refusal)
+    match read_input(text) {
+        Ok(sheet) => put_plan(out, sheet.plan),
+        Err(refusal) => put_refusal(out, 0, refusal),
     }
 }

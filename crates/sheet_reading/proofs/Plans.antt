@@ -9,13 +9,13 @@ use Rattle.lists.specs.Lists.{zeros}
 use Rattle.units.specs.Refusals.{refusal, taken}
 use Rattle.writing.specs.Wrote.{Wrote}
 use Rattle.planning.specs.Plan.{plan_of}
-use Rattle.planning.specs.declared.Planned.{Planned}
+use Rattle.planning.specs.Plan.{Planned}
 use Rattle.name_list.specs.Names.{names_text}
 use Rattle.tick_length.specs.Inner.{held}
 use Rattle.sheet_text.specs.Job.{Job, names_in, ticks_in}
 use Rattle.sheet_text.specs.Sheet.{says, refused_by, sheet_of}
 use Rattle.sheet_reading.specs.Read.{names_limit, unread, planned, answered, plan_sheet}
-use Rattle.sheet_reading.specs.declared.Sheet.{Sheet}
+use Rattle.sheet_reading.specs.Read.{Sheet}
 use Rattle.sheet_reading.proofs.Held.{plan_held}
 
 -- the answer of a sheet that is taken

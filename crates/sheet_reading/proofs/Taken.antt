@@ -24,7 +24,7 @@ use Rattle.sheet_text.specs.Grammar.{AllGood, Says, sheet}
 use Rattle.sheet_text.proofs.EverySheet.{says_so}
 use Rattle.sheet_text.proofs.Cases.{Case, no_number, out_of_range, too_long, bad_line, same_name, read, case_of}
 use Rattle.sheet_reading.specs.Read.{names_limit, unread, planned, answered, plan_sheet}
-use Rattle.sheet_reading.specs.declared.Sheet.{Sheet}
+use Rattle.sheet_reading.specs.Read.{Sheet}
 
 -- what is answered of a sheet that is taken
 abbrev pub read_sheet : ℕ → ℕ → List Job → Sheet

@@ -5,9 +5,9 @@ ghost use Rattle.std.specs.Prelude.{◌≡◌, map, ◌≤◌, length};
 ghost use Rattle.planning.specs.Plan.{plan_of};
 ghost use Rattle.sheet_text.specs.Job.{jobs_from};
 ghost use Rattle.sheet_text.specs.Sheet.{sheet_limit};
-ghost use Rattle.sheet_reading.specs.Read.{unread as unread_by, planned, plan_sheet};
+ghost use Rattle.sheet_reading.specs.Read.{sheet_told, planned, plan_sheet};
 
-use planning::{Line, Plan, Planned, plan_of};
+use planning::{Plan, plan_of};
 use sheet_text::job::put_names;
 use sheet_text::sheet::{SheetRead, read_sheet};
 use table_text::NUMBERS;
@@ -16,56 +16,46 @@ use units::refusal::Refusal;
 // Bytes of the names of a table, at most.
 pub const NAMES: usize = 832;
 
-// The tick length, the names, a name a line, their length and the plan; or the refusal, and every other number 0.
+// The tick length, the names, a name a line, their length and the plan.
 #[derive(Clone, Copy)]
-pub struct Sheet {
-    pub refusal: Refusal,
+pub struct PlannedSheet {
     pub tick: u32,
     pub names: [u8; NAMES],
     pub length: usize,
     pub plan: Plan,
 }
 
-// A refused sheet.
-pub fn unread(refusal: Refusal) -> Sheet
-    ensures { result ≡ unread_by refusal }
-{
-    Sheet {
-        refusal,
-        tick: 0,
-        names: [0; NAMES],
-        length: 0,
-        plan: Plan::EMPTY,
-    }
-}
-
 // A sheet whose jobs start at a place, with its table in ticks.
-fn plan_jobs(cores: u32, sheet: &[u8], tick: u32, from: usize, table: &[u32]) -> Sheet
+fn plan_jobs(
+    cores: u32,
+    sheet: &[u8],
+    tick: u32,
+    from: usize,
+    table: &[u32],
+) -> Result<PlannedSheet, Refusal>
     requires { length sheet.now ≤ sheet_limit }
-    ensures { result ≡ planned tick (jobs_from (length sheet.now) sheet.now from) (plan_of cores table.now) }
+    ensures { sheet_told result ≡ planned tick (jobs_from (length sheet.now) sheet.now from) (plan_of cores table.now) }
 {
-    let Planned { refusal, plan } = plan_of(cores, table);
-    if refusal.no != 0 {
-        return unread(refusal);
-    }
+    let plan = plan_of(cores, table)?;
     let mut names = [0u8; NAMES];
     let length = put_names(sheet, from, &mut names);
-    Sheet {
-        refusal: Refusal::NONE,
+    Ok(PlannedSheet {
         tick,
         names,
         length,
         plan,
-    }
+    })
 }
 
 // The plan of a sheet on a number of cores.
-pub fn plan_sheet(cores: u32, sheet: &[u8]) -> Sheet
-    ensures { result ≡ plan_sheet cores sheet.now }
+pub fn plan_sheet(cores: u32, sheet: &[u8]) -> Result<PlannedSheet, Refusal>
+    ensures { sheet_told result ≡ plan_sheet cores sheet.now }
 {
     let mut table = [0u32; NUMBERS];
-    match read_sheet(sheet, &mut table) {
-        Err(no) => unread(Refusal { no, named: 0 }),
-        Ok(SheetRead { tick, from, count }) => plan_jobs(cores, sheet, tick, from, &table[..count]),
-    }
+    // `?` would turn the reason into a refusal without telling that they say the same.
+    let SheetRead { tick, from, count } = match read_sheet(sheet, &mut table) {
+        Ok(read) => read,
+        Err(reason) => return Err(Refusal::from(reason)),
+    };
+    plan_jobs(cores, sheet, tick, from, &table[..count])
 }

@@ -15,11 +15,11 @@ use Rattle.sheet_text.proofs.Cases.{Case, no_number, out_of_range, too_long, bad
 use Rattle.sheet_text.proofs.Fits.{few_numbers, table_holds}
 
 -- a sheet is read or not
-no_reading : {A : Type 0} {tick from n no : ℕ} → Ok (sheet_read tick from n) ≡ Err no → A
+pub no_reading : {A : Type 0} {tick from n no : ℕ} → Ok (sheet_read tick from n) ≡ Err no → A
 no_reading e = let z : ◌≡◌ {A = ℕ} 0 1 = cc in absurd (omega arith)
 
 -- two that are equal are read alike
-same_read : {r q : SheetRead} → ◌≡◌ {A = Reading} (Ok r) (Ok q) → r ≡ q
+pub same_read : {r q : SheetRead} → ◌≡◌ {A = Reading} (Ok r) (Ok q) → r ≡ q
 same_read e = cc
 
 -- a refusal says a refusal

@@ -1,6 +1,7 @@
 -- What a sheet says, document 02, R-1: a tick length and jobs; or it is refused by 19, then 17, then 18.
 use Rattle.std.specs.Prelude.{Result, Ok, Err, Some, None, ℕ, cond, List, [], ltb, eqb, length}
-use Rattle.units.specs.Refusals.{sheet_no, name_no, tick_no}
+use Rattle.units.specs.declared.refusal.Reason.{Reason}
+use Rattle.units.specs.Refusals.{number, sheet_no, name_no, tick_no}
 use Rattle.writing.specs.Ascii.{newline}
 use Rattle.scanning.specs.Line.{field_at}
 use Rattle.scanning.specs.Number.{Number}
@@ -69,3 +70,8 @@ end_of None = 0
 unfoldable pub answer_of : ℕ → Said → Reading
 answer_of from (says tick js) = Ok (sheet_read tick from (length (ticks_in tick js)))
 answer_of from (refused_by n) = Err n
+
+-- what the code's answer tells
+abbrev pub reading_told : Result SheetRead Reason → Reading
+reading_told (Ok r) = Ok r
+reading_told (Err e) = Err (number e)

@@ -7,10 +7,10 @@ use lib.ListN.{length}
 use borrow.Author.Tests.{le-leb, lt-leb, eq-eqb, ne_eqb}
 use Rattle.units.specs.Limits.{tasks_limit}
 use Rattle.units.specs.Refusals.{refusal, buffer_no}
-use Rattle.units.specs.declared.refusal.Refusal.{Refusal}
+use Rattle.units.specs.Refusals.{Refusal}
 use Rattle.writing.specs.Wrote.{Wrote}
 use Rattle.writing.proofs.Wrote.{whole}
-use Rattle.sheet_writing.specs.declared.Written.{Written}
+use Rattle.sheet_writing.specs.Write.{Written}
 use Rattle.sheet_writing.specs.Write.{write_refusal, sheet_for, unwritten, written_whole, fitted, fitted_after, written_of, written_after}
 use Rattle.sheet_writing.proofs.Refused.{table_kept}
 
@@ -24,11 +24,11 @@ too_long text a e h =
 
 -- it fits, and is written
 pub written : (text : List ℕ) {a b : List ℕ} {k need : ℕ} → Wrote a 0 text b k → need ≡ 0 + length text → need ≤ length a
-    → (written_whole need ≡ fitted text (length a)) × (b ≡ fitted_after text a)
+    → (written_whole k ≡ fitted text (length a)) × (b ≡ fitted_after text a)
 unfolding fitted fitted_after
 written text {a} {b} {k} {need} w e h =
     let f : length text ≤ length a = omega arith in
-    let same : need ≡ length text = omega arith in
+    let same : k ≡ length text = omega (arith, w.end) in
     (rw (le-leb (length text) (length a) f, same), rw (le-leb (length text) (length a) f) (whole w f))
 
 module _ (m : ℕ) (xs names : List ℕ) (tick : ℕ) (a : List ℕ) {r : Refusal} (e : r ≡ write_refusal m xs names tick) where

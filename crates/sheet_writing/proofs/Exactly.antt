@@ -11,7 +11,7 @@ use lib.Dec.{leb, eqb}
 use lib.ListN.{length, drop}
 use Rattle.lists.specs.Lists.{bit}
 use Rattle.lists.proofs.Tests.{by_cases, and_true}
-use Rattle.units.specs.declared.refusal.Refusal.{Refusal}
+use Rattle.units.specs.Refusals.{Refusal}
 use Rattle.units.specs.Refusals.{refusal}
 use Rattle.admission.specs.Admission.{plan_refusal}
 use Rattle.admission.proofs.Exactly.{answers}
@@ -22,7 +22,7 @@ use Rattle.name_list.proofs.Repeated.{twice_exactly}
 use Rattle.sheet_text.specs.Grammar.{TickIn, Distinct, sheet_written}
 use Rattle.sheet_text.proofs.Says.{tick_range}
 use Rattle.sheet_writing.specs.Write.{jobs_with, write_refusal, sheet_for, unwritten, written_whole, fitted, fitted_after, written_of, written_after}
-use Rattle.sheet_writing.specs.declared.Written.{Written}
+use Rattle.sheet_writing.specs.Write.{Written}
 use Rattle.sheet_writing.proofs.Refused as Refused
 use Rattle.sheet_writing.specs.Given.{Named, Fine, Given, refused_19, refused_17, refused_18, planning, refused_14, written}
 

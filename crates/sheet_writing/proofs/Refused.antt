@@ -11,13 +11,13 @@ use lib.Dec.{ltb, eqb}
 use lib.ListN.{length}
 use Rattle.lists.specs.Lists.{total}
 use Rattle.lists.proofs.Tests.{by_cases}
-use Rattle.units.specs.declared.refusal.Refusal.{Refusal}
+use Rattle.units.specs.Refusals.{Refusal}
 use Rattle.units.specs.Refusals.{refusal, taken, sheet_no, name_no, tick_no}
 use Rattle.arith.specs.Period.{periods, common, period_of}
 use Rattle.admission.specs.Weight.{weights}
 use Rattle.admission.specs.Refusals.{◌or_else◌, input_test, weights_test}
 use Rattle.admission.specs.Admission.{period_test, plan_refusal, refused_with, taken_with, admission_of}
-use Rattle.admission.specs.declared.admit.Admission.{Admission}
+use Rattle.admission.specs.Admission.{Admission}
 use Rattle.admission.proofs.First.{decides, leaves}
 use Rattle.admission.proofs.Kept.{Kept, kept, neither, failed}
 use Rattle.admission.proofs.Admitting.{passed}
@@ -90,21 +90,21 @@ module _ (m : ℕ) (xs names : List ℕ) (tick : ℕ) where
   unfolding write_refusal
   wrong_tick e = rw e refl
 
-  module _ (e : tick_in tick ≡ true) {n : ℕ} (f : refusal n 0 ≡ names_test (length xs / 2) names) where
+  module _ (e : tick_in tick ≡ true) {r : Refusal} (f : r ≡ names_test (length xs / 2) names) where
     -- where the tick length is in range, the names and planning decide
-    later : {r : Refusal} → r ≡ (names_test (length xs / 2) names or_else plan_refusal m xs) → r ≡ write_refusal m xs names tick
+    later : {q : Refusal} → q ≡ (names_test (length xs / 2) names or_else plan_refusal m xs) → q ≡ write_refusal m xs names tick
     unfolding write_refusal
     later g =
         leaves taken (tick_test tick) _ _ (rw e refl) refl
         (g ∙ first_of (count_test (length xs / 2) (names_said names)) (twice_test (names_of names)) (plan_refusal m xs))
 
     -- then 17 and 18
-    pub wrong_names : (n ≡ 0 → ⊥) → refusal n 0 ≡ write_refusal m xs names tick
-    wrong_names h = later (decides (refusal n 0) _ (plan_refusal m xs) f h)
+    pub wrong_names : (r.no ≡ 0 → ⊥) → r ≡ write_refusal m xs names tick
+    wrong_names h = later (decides r _ (plan_refusal m xs) f h)
 
     -- then planning's
-    pub planning : {a : Admission} → n ≡ 0 → a ≡ admission_of m xs → a.refusal ≡ write_refusal m xs names tick
-    planning h g = later (leaves (refusal n 0) _ _ _ f h (ap (λ (x : Admission). x.refusal) g ∙ plan_is m xs))
+    pub planning : {a : Admission} → r.no ≡ 0 → a ≡ admission_of m xs → a.refusal ≡ write_refusal m xs names tick
+    planning h g = later (leaves r _ _ _ f h (ap (λ (x : Admission). x.refusal) g ∙ plan_is m xs))
 
   module _ (none : (write_refusal m xs names tick).no ≡ 0) where
     -- what is not refused passes every test

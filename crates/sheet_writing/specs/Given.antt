@@ -6,7 +6,7 @@ use Rattle.names.specs.Name.{Name}
 use Rattle.name_list.specs.Names.{names_text}
 use Rattle.sheet_text.specs.Grammar.{TickIn, Distinct, Twice, sheet_written}
 use Rattle.sheet_writing.specs.Write.{jobs_with, unwritten, written_whole}
-use Rattle.sheet_writing.specs.declared.Written.{Written}
+use Rattle.sheet_writing.specs.Write.{Written}
 
 -- the lent names are these: each of 1 to 12 small letters, a name a line, one for each task
 pub record Named (xs names : List ℕ) (ns : List (List ℕ)) : Type 0 where

@@ -1,14 +1,14 @@
 -- Writing a table as a sheet, document 02, R-1: its ticks times the tick length. Refused by 19, 17, 18, planning's, then 14.
-use Rattle.std.specs.Prelude.{Option, Some, None, ℕ, ◌*◌, ◌/◌, cond, List, [], ◌∷◌, ◌++◌, leb, eqb, length, drop}
-use Rattle.units.specs.declared.refusal.Refusal.{Refusal}
-use Rattle.units.specs.Refusals.{refusal, taken, buffer_no, sheet_no, name_no, tick_no}
+use Rattle.std.specs.Prelude.{Option, Some, None, ℕ, ◌*◌, ◌/◌, cond, List, [], ◌∷◌, ◌++◌, leb, eqb, length, drop, Result, Ok, Err}
+use Rattle.units.specs.Refusals.{Refusal}
+use Rattle.units.specs.declared.refusal.Refusal.{Refusal as Refused}
+use Rattle.units.specs.Refusals.{told, refusal, taken, buffer_no, sheet_no, name_no, tick_no}
 use Rattle.admission.specs.Refusals.{◌or_else◌}
 use Rattle.admission.specs.Admission.{plan_refusal}
 use Rattle.name_list.specs.Names.{twice, names_of, names_said}
 use Rattle.tick_length.specs.Ticks.{tick_in}
 use Rattle.sheet_text.specs.Job.{Job, job}
 use Rattle.sheet_text.specs.Grammar.{sheet_written}
-use Rattle.sheet_writing.specs.declared.Written.{Written}
 
 -- the jobs of a table and its names: its ticks times the tick length
 abbrev pub jobs_with : ℕ → List (List ℕ) → List ℕ → List Job
@@ -42,6 +42,11 @@ write_refusal m xs names tick =
 unfoldable pub sheet_for : List ℕ → List ℕ → ℕ → List ℕ
 sheet_for xs names tick = sheet_written tick (jobs_with tick (names_of names) xs)
 
+-- the refusal, or none and the sheet's length
+pub record Written : Type 0 where
+  pub refusal : Refusal
+  pub length : ℕ
+
 -- a refusal and no sheet
 abbrev pub unwritten : Refusal → Written
 unwritten r = record { refusal = r; length = 0 }
@@ -49,6 +54,11 @@ unwritten r = record { refusal = r; length = 0 }
 -- a sheet of so many bytes
 abbrev pub written_whole : ℕ → Written
 written_whole n = record { refusal = taken; length = n }
+
+-- what the code's answer tells
+abbrev pub writing_told : Result ℕ Refused → Written
+writing_told (Ok n) = written_whole n
+writing_told (Err r) = unwritten (told r)
 
 -- a sheet in a buffer of so many bytes: refusal 14, or its length
 unfoldable pub fitted : List ℕ → ℕ → Written

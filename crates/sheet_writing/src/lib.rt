@@ -3,28 +3,21 @@
 
 ghost use Rattle.std.specs.Prelude.{◌≡◌, ◌*◌, ◌+◌, ◌≤◌, length};
 ghost use Rattle.units.specs.Limits.{tasks_limit};
-ghost use Rattle.units.specs.Refusals.{refusal as refusal_of};
+ghost use Rattle.units.specs.Refusals.{said};
 ghost use Rattle.admission.specs.Refusals.{◌or_else◌};
 ghost use Rattle.name_list.specs.Names.{names_of, names_said};
 ghost use Rattle.writing.specs.Inner.{place_limit};
 ghost use Rattle.writing.specs.Wrote.{Wrote};
 ghost use Rattle.sheet_text.specs.Job.{job};
 ghost use Rattle.sheet_text.specs.Grammar.{job_written};
-ghost use Rattle.sheet_writing.specs.Write.{count_test, twice_test, write_refusal, sheet_for, fitted, fitted_after, written_of, written_after};
+ghost use Rattle.sheet_writing.specs.Write.{count_test, twice_test, write_refusal, sheet_for, fitted, fitted_after, written_of, written_after, writing_told};
 
 use admission::admit::admit;
 use name_list::{name_twice, read_names};
 use names::name::name_end;
 use tick_length::tick_in;
-use units::refusal::Refusal;
+use units::refusal::{Reason, Refusal};
 use writing::{NEWLINE, put_byte, put_field, put_number, put_text};
-
-// A refusal, or none and the sheet's length.
-#[derive(Clone, Copy)]
-pub struct Written {
-    pub refusal: Refusal,
-    pub length: usize,
-}
 
 // A job's line: its numbers are ticks.
 fn put_job(buf: &mut [u8], at: usize, name: &[u8], cost: u32, period: u32, tick: u32) -> usize
@@ -64,64 +57,55 @@ fn put_sheet(buf: &mut [u8], table: &[u32], names: &[u8], tick: u32) -> usize
 }
 
 // 17 and 18: each line is a name, there is one for each task, and none stands twice.
-fn names_refusal(names: &[u8], tasks: usize) -> u32
-    ensures { refusal_of result 0 ≡ (count_test tasks (names_said names.now) or_else twice_test (names_of names.now)) }
+fn names_test(names: &[u8], tasks: usize) -> Result<(), Refusal>
+    ensures { said result ≡ (count_test tasks (names_said names.now) or_else twice_test (names_of names.now)) }
 {
     if read_names(names) != Some(tasks) {
-        return Refusal::SHEET;
+        return Err(Refusal::from(Reason::Sheet));
     }
-    if name_twice(names) { Refusal::NAME } else { 0 }
+    if name_twice(names) {
+        return Err(Refusal::from(Reason::Name));
+    }
+    Ok(())
 }
 
 // The first refusal that applies, but for 14.
-fn write_refusal(cores: u32, table: &[u32], names: &[u8], tick: u32) -> Refusal
-    ensures { result ≡ write_refusal cores table.now names.now tick }
+fn write_test(cores: u32, table: &[u32], names: &[u8], tick: u32) -> Result<(), Refusal>
+    ensures { said result ≡ write_refusal cores table.now names.now tick }
 {
     if !tick_in(tick as u64) {
-        return Refusal {
-            no: Refusal::TICK,
-            named: 0,
-        };
+        return Err(Refusal::from(Reason::Tick));
     }
-    let no = names_refusal(names, table.len() / 2);
-    if no != 0 {
-        return Refusal { no, named: 0 };
-    }
-    admit(cores, table).refusal
+    names_test(names, table.len() / 2)?;
+    admit(cores, table)?;
+    Ok(())
 }
 
 // A sheet that nothing but a short buffer refuses: a first run on a buffer of one byte finds its length.
-fn write_taken(table: &[u32], names: &[u8], tick: u32, buf: &mut [u8]) -> Written
+fn write_taken(table: &[u32], names: &[u8], tick: u32, buf: &mut [u8]) -> Result<usize, Refusal>
     requires { length table.now ≤ 2 * tasks_limit }
-    ensures value { result ≡ fitted (sheet_for table.now names.now tick) (length buf.old) }
+    ensures value { writing_told result ≡ fitted (sheet_for table.now names.now tick) (length buf.old) }
     ensures buf_after { buf.new ≡ fitted_after (sheet_for table.now names.now tick) buf.old }
 {
     let mut one = [0u8; 1];
     let need = put_sheet(&mut one, table, names, tick);
     if buf.len() < need {
-        return Written {
-            refusal: Refusal {
-                no: Refusal::BUFFER,
-                named: 0,
-            },
-            length: 0,
-        };
+        return Err(Refusal::from(Reason::Buffer));
     }
-    put_sheet(buf, table, names, tick);
-    Written {
-        refusal: Refusal::NONE,
-        length: need,
-    }
+    Ok(put_sheet(buf, table, names, tick))
 }
 
 // A table as a sheet in a lent buffer: its length, or the refusal and no byte changed.
-pub fn write_sheet(cores: u32, table: &[u32], names: &[u8], tick: u32, buf: &mut [u8]) -> Written
-    ensures value { result ≡ written_of cores table.now names.now tick (length buf.old) }
+pub fn write_sheet(
+    cores: u32,
+    table: &[u32],
+    names: &[u8],
+    tick: u32,
+    buf: &mut [u8],
+) -> Result<usize, Refusal>
+    ensures value { writing_told result ≡ written_of cores table.now names.now tick (length buf.old) }
     ensures buf_after { buf.new ≡ written_after cores table.now names.now tick buf.old }
 {
-    let refusal = write_refusal(cores, table, names, tick);
-    if refusal.no != 0 {
-        return Written { refusal, length: 0 };
-    }
+    write_test(cores, table, names, tick)?;
     write_taken(table, names, tick, buf)
 }

@@ -1,6 +1,6 @@
 -- What a text says, document 01: one line with M, then a line `C T` for each task, at most 4,096 bytes.
 use Rattle.std.specs.Prelude.{Result, Ok, Err, Some, None, ℕ, zero, suc, cond, List, [], ◌∷◌, ltb, eqb, length}
-use Rattle.units.specs.declared.refusal.Refusal.{Refusal}
+use Rattle.units.specs.Refusals.{Refusal}
 use Rattle.units.specs.Refusals.{refusal, taken, text_no}
 use Rattle.writing.specs.Ascii.{newline}
 use Rattle.scanning.specs.Line.{field_at, pair_at}

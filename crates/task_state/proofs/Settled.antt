@@ -1,6 +1,7 @@
 -- Any two answers that a public function's contract allows are equal.
 use mathlib.Core.Path.{sym, ◌∙◌}
 use Rattle.lists.specs.Settled.{Settled}
+use Rattle.units.proofs.Refusals.{same_number}
 use Rattle.task_state.proofs.due.due_after.Reads as DueAfter
 use Rattle.task_state.proofs.State.release_tests.Reads as ReleaseTests
 use Rattle.task_state.proofs.State.finish_tests.Reads as FinishTests
@@ -13,10 +14,10 @@ pub due_after_lem : Settled DueAfter.Post
 due_after_lem κs a x y e f p q = p ∙ sym q
 
 pub release_tests_lem : Settled ReleaseTests.Post
-release_tests_lem κs a x y e f p q = p ∙ sym q
+release_tests_lem κs a x y e f p q = same_number x y (p ∙ sym q)
 
 pub finish_tests_lem : Settled FinishTests.Post
-finish_tests_lem κs a x y e f p q = p ∙ sym q
+finish_tests_lem κs a x y e f p q = same_number x y (p ∙ sym q)
 
 pub with_run_lem : Settled WithRun.Post
 with_run_lem κs a x y e f p q = p ∙ sym q

@@ -4,6 +4,7 @@ use Rattle.lists.specs.Settled.{Settled}
 use Rattle.units.specs.Units.{share}
 use Rattle.units.proofs.limits.in_force.Reads as LimitsInForce
 use Rattle.units.proofs.refusal.in_force.Reads as NumbersInForce
+use Rattle.units.proofs.refusal.Reason.number.Reads as Number
 use Rattle.units.proofs.share.Share.largest.Reads as Largest
 use Rattle.units.proofs.share.Share.smaller.Reads as Smaller
 use Rattle.units.proofs.share.Share.rest.Reads as Rest
@@ -22,3 +23,6 @@ smaller κs a x y e f p q = ap share (p ∙ sym q)
 
 pub rest : Settled Rest.Post
 rest κs a x y e f p q = ap share (p ∙ sym q)
+
+pub number : Settled Number.Post
+number κs a x y e f p q = p ∙ sym q

@@ -1,9 +1,15 @@
 -- Document 01, "Refusal numbers", and document 02: a refusal, and the number of each case.
-use Rattle.std.specs.Prelude.{ℕ, cond, eqb}
+use Rattle.std.specs.Prelude.{ℕ, cond, eqb, Result, Ok, Err}
 use Rattle.units.specs.declared.refusal.Numbers.{Numbers}
-use Rattle.units.specs.declared.refusal.Refusal.{Refusal}
+use Rattle.units.specs.declared.refusal.Reason.{Reason}
+use Rattle.units.specs.declared.refusal.Reason.TheVariants as Reasons
+use Rattle.units.specs.declared.refusal.Refusal.{Refusal as Refused}
 
 -- a refusal's number, and the task, the line or the arrival that it names
+pub record Refusal : Type 0 where
+  pub no : ℕ
+  pub named : ℕ
+
 abbrev pub refusal : ℕ → ℕ → Refusal
 refusal n i = record { no = n; named = i }
 
@@ -124,3 +130,41 @@ the_numbers = record {
   length = length_no;
   order = order_no;
 }
+
+-- the number of each reason
+abbrev pub number : Reason → ℕ
+number Reasons.Cores = cores_no
+number Reasons.Table = table_no
+number Reasons.Range = range_no
+number Reasons.Cost = cost_no
+number Reasons.Period = period_no
+number Reasons.Weights = weights_no
+number Reasons.Task = task_no
+number Reasons.Past = past_no
+number Reasons.Backlog = backlog_no
+number Reasons.NoRun = no_run_no
+number Reasons.Clock = clock_no
+number Reasons.Core = core_no
+number Reasons.Buffer = buffer_no
+number Reasons.Unsound = unsound_no
+number Reasons.Text = text_no
+number Reasons.Sheet = sheet_no
+number Reasons.Name = name_no
+number Reasons.Tick = tick_no
+number Reasons.Arrival = arrival_no
+number Reasons.Length = length_no
+number Reasons.Order = order_no
+
+-- what the code's refusal tells: the number of its reason, and what it names
+abbrev pub told : Refused → Refusal
+told r = refusal (number r.reason) r.named
+
+-- the refusal that an answer tells, and none where there is an answer
+abbrev pub said : {T : Type 0} → Result T Refused → Refusal
+said (Ok x) = taken
+said (Err r) = told r
+
+-- the number that it tells, and 0 for none
+abbrev pub number_said : {T : Type 0} → Result T Reason → ℕ
+number_said (Ok x) = 0
+number_said (Err r) = number r

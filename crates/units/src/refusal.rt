@@ -1,60 +1,100 @@
 // Refusals of document 01, "Refusal numbers", and of document 02. Each number stands here once and once in specs/Refusals; `in_force` shows that the two agree.
 ghost use Rattle.std.specs.Prelude.{◌≡◌};
-ghost use Rattle.units.specs.Refusals.{the_numbers};
+ghost use Rattle.units.specs.Refusals.{refusal, number as number_of, told, the_numbers};
 
-// A refusal's number, and what it names: a task, a line of a text, or an arrival. 0 and 0 for none.
+// Why something is refused.
+#[derive(Clone, Copy, PartialEq, Eq)]
+pub enum Reason {
+    // Core count 0 or above 16.
+    Cores,
+    // Table empty, over 64 tasks, or ending inside a task.
+    Table,
+    // A task has cost 0, period 0 or period above its limit.
+    Range,
+    // A task's cost exceeds its period.
+    Cost,
+    // The common period exceeds its limit.
+    Period,
+    // The weights sum to more than M × L.
+    Weights,
+    // Task number 0 or above N.
+    Task,
+    // The call's time is below the stored clock.
+    Past,
+    // 9 stood for a release less than T after the task's last one: it is held now, and no call gives 9.
+    // A release while 8 runs of the task are unfinished.
+    Backlog,
+    // Finish of a task with no unfinished run, or whose oldest one is held.
+    NoRun,
+    // The call's time, or a release's held time, is above the clock's limit.
+    Clock,
+    // Core number 0 or above M.
+    Core,
+    // The listing is longer than the lent buffer.
+    Buffer,
+    // A record handed in is unsound.
+    Unsound,
+    // The program's text can't be read.
+    Text,
+    // A line of an office sheet after its first can't be read, or the sheet is too long.
+    Sheet,
+    // An office sheet has the same name twice.
+    Name,
+    // An office sheet's first line can't be read, or its tick length is out of range.
+    Tick,
+    // An arrival can't be read, is beyond 4,096 or is for a task not in the table.
+    Arrival,
+    // An arrival's length is outside 1 to its task's cost.
+    Length,
+    // An arrival's time is below the one before.
+    Order,
+}
+
+impl Reason {
+    // The number of the documents.
+    pub fn number(self) -> u32
+        ensures { result ≡ number_of self }
+    {
+        match self {
+            Self::Cores => 1,
+            Self::Table => 2,
+            Self::Range => 3,
+            Self::Cost => 4,
+            Self::Period => 5,
+            Self::Weights => 6,
+            Self::Task => 7,
+            Self::Past => 8,
+            Self::Backlog => 10,
+            Self::NoRun => 11,
+            Self::Clock => 12,
+            Self::Core => 13,
+            Self::Buffer => 14,
+            Self::Unsound => 15,
+            Self::Text => 16,
+            Self::Sheet => 17,
+            Self::Name => 18,
+            Self::Tick => 19,
+            Self::Arrival => 25,
+            Self::Length => 26,
+            Self::Order => 27,
+        }
+    }
+}
+
+// A refusal, and what it names: a task, a line of a text, or an arrival; 0 for none.
 #[derive(Clone, Copy)]
 pub struct Refusal {
-    pub no: u32,
+    pub reason: Reason,
     pub named: usize,
 }
 
-impl Refusal {
-    pub const NONE: Self = Self { no: 0, named: 0 };
-
-    // Core count 0 or above 16.
-    pub const CORES: u32 = 1;
-    // Table empty, over 64 tasks, or ending inside a task.
-    pub const TABLE: u32 = 2;
-    // A task has cost 0, period 0 or period above its limit.
-    pub const RANGE: u32 = 3;
-    // A task's cost exceeds its period.
-    pub const COST: u32 = 4;
-    // The common period exceeds its limit.
-    pub const PERIOD: u32 = 5;
-    // The weights sum to more than M × L.
-    pub const WEIGHTS: u32 = 6;
-    // Task number 0 or above N.
-    pub const TASK: u32 = 7;
-    // The call's time is below the stored clock.
-    pub const PAST: u32 = 8;
-    // 9 stood for a release less than T after the task's last one: it is held now, and no call gives 9.
-    // A release while 8 runs of the task are unfinished.
-    pub const BACKLOG: u32 = 10;
-    // Finish of a task with no unfinished run, or whose oldest one is held.
-    pub const NO_RUN: u32 = 11;
-    // The call's time, or a release's held time, is above the clock's limit.
-    pub const CLOCK: u32 = 12;
-    // Core number 0 or above M.
-    pub const CORE: u32 = 13;
-    // The listing is longer than the lent buffer.
-    pub const BUFFER: u32 = 14;
-    // A record handed in is unsound.
-    pub const UNSOUND: u32 = 15;
-    // The program's text can't be read.
-    pub const TEXT: u32 = 16;
-    // A line of an office sheet after its first can't be read, or the sheet is too long.
-    pub const SHEET: u32 = 17;
-    // An office sheet has the same name twice.
-    pub const NAME: u32 = 18;
-    // An office sheet's first line can't be read, or its tick length is out of range.
-    pub const TICK: u32 = 19;
-    // An arrival can't be read, is beyond 4,096 or is for a task not in the table.
-    pub const ARRIVAL: u32 = 25;
-    // An arrival's length is outside 1 to its task's cost.
-    pub const LENGTH: u32 = 26;
-    // An arrival's time is below the one before.
-    pub const ORDER: u32 = 27;
+// A refusal that names nothing.
+impl From<Reason> for Refusal {
+    fn from(reason: Reason) -> Self
+        ensures { told result ≡ refusal (number_of reason) 0 }
+    {
+        Self { reason, named: 0 }
+    }
 }
 
 #[derive(Clone, Copy)]
@@ -87,26 +127,26 @@ pub fn in_force() -> Numbers
     ensures { result ≡ the_numbers }
 {
     Numbers {
-        cores: Refusal::CORES,
-        table: Refusal::TABLE,
-        range: Refusal::RANGE,
-        cost: Refusal::COST,
-        period: Refusal::PERIOD,
-        weights: Refusal::WEIGHTS,
-        task: Refusal::TASK,
-        past: Refusal::PAST,
-        backlog: Refusal::BACKLOG,
-        norun: Refusal::NO_RUN,
-        clock: Refusal::CLOCK,
-        core: Refusal::CORE,
-        buffer: Refusal::BUFFER,
-        unsound: Refusal::UNSOUND,
-        text: Refusal::TEXT,
-        sheet: Refusal::SHEET,
-        name: Refusal::NAME,
-        tick: Refusal::TICK,
-        arrival: Refusal::ARRIVAL,
-        length: Refusal::LENGTH,
-        order: Refusal::ORDER,
+        cores: Reason::Cores.number(),
+        table: Reason::Table.number(),
+        range: Reason::Range.number(),
+        cost: Reason::Cost.number(),
+        period: Reason::Period.number(),
+        weights: Reason::Weights.number(),
+        task: Reason::Task.number(),
+        past: Reason::Past.number(),
+        backlog: Reason::Backlog.number(),
+        norun: Reason::NoRun.number(),
+        clock: Reason::Clock.number(),
+        core: Reason::Core.number(),
+        buffer: Reason::Buffer.number(),
+        unsound: Reason::Unsound.number(),
+        text: Reason::Text.number(),
+        sheet: Reason::Sheet.number(),
+        name: Reason::Name.number(),
+        tick: Reason::Tick.number(),
+        arrival: Reason::Arrival.number(),
+        length: Reason::Length.number(),
+        order: Reason::Order.number(),
     }
 }

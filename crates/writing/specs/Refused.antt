@@ -1,7 +1,7 @@
 -- A refusal's line, document 01, "Listing and text".
 use Rattle.std.specs.Prelude.{ℕ, Bool, cond, ◌&&◌, List, [], ◌++◌, leb, eqb}
 use Rattle.units.specs.Refusals.{text_no, arrival_no, order_no}
-use Rattle.units.specs.declared.refusal.Refusal.{Refusal}
+use Rattle.units.specs.Refusals.{Refusal}
 use Rattle.writing.specs.Field.{field, line_end}
 
 -- 25 to 27 name an arrival

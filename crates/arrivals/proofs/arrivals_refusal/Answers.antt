@@ -1,7 +1,8 @@
 -- `arrivals::arrivals_refusal` meets its contract.
-use mathlib.Core.Path.{◌≡◌, refl, ◌∙◌}
+use mathlib.Core.Path.{◌≡◌, refl}
 use lib.ListN.{length}
 use Rattle.units.specs.Limits.{tasks_limit}
+use Rattle.units.proofs.Refusals.{refuses}
 use Rattle.arrivals.specs.Arrivals.{arrival_cost}
 use Rattle.arrivals.proofs.Tried.{start, cost_read, cost_none, tests_are, more, refused, all}
 use borrow.Author.Rules.{rules}
@@ -20,17 +21,16 @@ cost_is c =
 pub loop-k-init : goal.loop-k-init
 loop-k-init c = start _ _ _
 
-pub returns-then-no-ne0 : goal.returns-then-no-ne0
-returns-then-no-ne0 c =
+pub returns-in-Err : goal.returns-in-Err
+returns-in-Err c =
     let h = c.loop-k.invariant in
     refused _ _ _ _ _ h c.loop-k-test.true (tests_are _ _ _ _ _ h
-    (cost_is (goal.at.returns-then-no-ne0 c).Joined-i-lt-TASKS) c.arrival_tests-no.ensures) c.if-no-ne0.true
+    (cost_is (goal.at.returns-in-Err c).Joined-i-lt-TASKS) c.in-Err.ensures) (λ z. refuses c.in-Err.reason z)
 
 pub loop-k-preserved : goal.loop-k-preserved
 loop-k-preserved c =
     let h = c.loop-k.invariant in
-    more _ _ _ _ _ h c.loop-k-test.true (tests_are _ _ _ _ _ h (cost_is (goal.at.loop-k-preserved c).Joined-i-lt-TASKS) c.arrival_tests-no.ensures
-    ∙ c.if-no-ne0.false) refl
+    more _ _ _ _ _ h c.loop-k-test.true (tests_are _ _ _ _ _ h (cost_is (goal.at.loop-k-preserved c).Joined-i-lt-TASKS) c.in_default.ensures) refl
 
 pub returns : goal.returns
 returns c = all _ _ _ _ _ c.loop-k.invariant c.loop-k-test.false

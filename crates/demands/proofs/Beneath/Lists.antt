@@ -11,12 +11,12 @@ use borrow.Author.Tests.{leb-true, leb-false, eqb-true, eq-eqb}
 use Rattle.lists.specs.Lists.{bit}
 use Rattle.lists.proofs.Tests.{by_cases}
 use Rattle.units.specs.Refusals.{refusal}
-use Rattle.units.specs.declared.refusal.Refusal.{Refusal}
+use Rattle.units.specs.Refusals.{Refusal}
 use Rattle.admission.specs.Admission.{plan_refusal}
 use Rattle.admission.specs.Given.{Taken}
 use Rattle.admission.proofs.Exactly.{exactly_taken}
 use Rattle.planning.specs.declared.Plan.{Plan}
-use Rattle.listing.specs.declared.listed.Listed.{Listed}
+use Rattle.listing.specs.Listed.{Listed}
 use Rattle.listing.specs.Listing.{listing_text}
 use Rattle.listing.specs.Listed.{unlisted, listed_whole, plan_listed, plan_after}
 

@@ -9,7 +9,7 @@ use lib.Seq.{sets}
 use borrow.Author.Tests.{eqb-true, eqb-false}
 use Rattle.lists.proofs.Tests.{by_cases}
 use Rattle.units.specs.Refusals.{refusal}
-use Rattle.units.specs.declared.refusal.Refusal.{Refusal}
+use Rattle.units.specs.Refusals.{Refusal}
 use Rattle.writing.specs.Refused.{refusal_text}
 use Rattle.admission.specs.Admission.{plan_refusal}
 use Rattle.admission.specs.Given.{Given, Taken}

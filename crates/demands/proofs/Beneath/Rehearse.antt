@@ -10,7 +10,7 @@ use borrow.Author.Tests.{eqb-true, eqb-false}
 use Rattle.lists.proofs.Tests.{by_cases}
 use Rattle.units.specs.Limits.{clock_limit}
 use Rattle.units.specs.Refusals.{refusal, clock_no, arrival_no}
-use Rattle.units.specs.declared.refusal.Refusal.{Refusal}
+use Rattle.units.specs.Refusals.{Refusal}
 use Rattle.writing.specs.Refused.{refusal_text}
 use Rattle.admission.specs.Admission.{plan_refusal}
 use Rattle.admission.specs.Given.{Given, Taken}

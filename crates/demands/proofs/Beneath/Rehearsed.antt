@@ -8,7 +8,7 @@ use native.Mathlib.Omega.{arith}
 use Rattle.units.specs.Limits.{clock_limit}
 use Rattle.units.specs.Units.{ticks}
 use Rattle.units.specs.Refusals.{refusal}
-use Rattle.units.specs.declared.refusal.Refusal.{Refusal}
+use Rattle.units.specs.Refusals.{Refusal}
 use Rattle.planning.specs.declared.Plan.{Plan}
 use Rattle.planning.specs.Shape.{PlanShaped}
 use Rattle.soundness.specs.Plan.{plan_sound}

@@ -13,7 +13,7 @@ use Rattle.writing.proofs.Wrote.{whole}
 use Rattle.lists.specs.Lists.{zeros}
 use Rattle.lists.proofs.Tests.{by_cases}
 use Rattle.units.specs.Refusals.{refusal}
-use Rattle.units.specs.declared.refusal.Refusal.{Refusal}
+use Rattle.units.specs.Refusals.{Refusal}
 use Rattle.admission.specs.Admission.{plan_refusal}
 use Rattle.admission.specs.Given.{Taken, Given}
 use Rattle.admission.proofs.Exactly.{exactly_taken}
@@ -24,7 +24,7 @@ use Rattle.sheet_text.specs.Sheet.{says}
 use Rattle.sheet_text.specs.Grammar.{Says}
 use Rattle.sheet_text.proofs.EverySheet.{reads}
 use Rattle.sheet_reading.specs.Read.{names_limit, unread, plan_sheet}
-use Rattle.sheet_reading.specs.declared.Sheet.{Sheet}
+use Rattle.sheet_reading.specs.Read.{Sheet}
 use Rattle.sheet_reading.proofs.Taken.{read_sheet, names_short}
 use Rattle.sheet_reading.proofs.Taken as Read
 use Rattle.sheet_reading.proofs.Words.{sheet_planning, sheet_taken}

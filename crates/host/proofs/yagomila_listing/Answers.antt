@@ -7,8 +7,8 @@ use lib.ListN.{length}
 use mir.Syntax.{w64}
 use mir.ValLaws.{to_z-of_z}
 use Rattle.std.proofs.Common.{rules}
-use Rattle.listing.specs.Listed.{table_listed, table_after}
-use Rattle.listing.specs.declared.listed.Listed.{Listed}
+use Rattle.listing.specs.Listed.{listing_told, table_listed, table_after}
+use Rattle.listing.specs.Listed.{Listed}
 use Rattle.listing.proofs.TableFits.{table_length}
 use Rattle.host.specs.Host.{answered}
 use Rattle.host.specs.Inner.{held_of}
@@ -18,7 +18,7 @@ use Rattle.host.proofs.yagomila_listing.Goals as goal
 
 pub answer_of-requires : goal.answer_of-requires
 answer_of-requires c =
-    let h : c.list_table.result ≡ table_listed c.args.cores (held_of c.args.table.now) (length c.args.buf.now) =
+    let h : listing_told c.list_table.result ≡ table_listed c.args.cores (held_of c.args.table.now) (length c.args.buf.now) =
     c.list_table.ensures.value
     ∙ ap (λ (xs : List ℕ). table_listed c.args.cores xs (length c.args.buf.now))
     (part c.args.table.now c.table_of-held.result c.table_of-held.ensures) in
@@ -26,7 +26,7 @@ answer_of-requires c =
 
 pub returns-clause-value : goal.returns-clause-value
 returns-clause-value c =
-    let h : c.list_table.result ≡ table_listed c.args.cores (held_of c.args.table.now) (length c.args.buf.now) =
+    let h : listing_told c.list_table.result ≡ table_listed c.args.cores (held_of c.args.table.now) (length c.args.buf.now) =
     c.list_table.ensures.value
     ∙ ap (λ (xs : List ℕ). table_listed c.args.cores xs (length c.args.buf.now))
     (part c.args.table.now c.table_of-held.result c.table_of-held.ensures) in

@@ -1,29 +1,32 @@
 -- `planning::plan_of` meets its contract.
-use Rattle.planning.proofs.Answer.{refused, taken_none, taken_plan_lem, taken_few}
-use Rattle.planning.specs.Plan.{refused_plan, taken_plan, empty_plan, empty_line}
-use Rattle.planning.specs.declared.Plan.{Plan}
-use Rattle.units.specs.declared.refusal.Refusal.{Refusal}
-use mathlib.Core.Path.{ap₂, ◌∙◌}
+use mathlib.Core.Path.{◌≡◌, refl, ap, ◌∙◌}
+use Rattle.std.proofs.Common.{Err, rules}
+use Rattle.units.specs.Refusals.{told, taken}
+use Rattle.units.proofs.Refusals.{refuses}
+use Rattle.admission.specs.Admission.{Admission, refused_with}
+use Rattle.planning.specs.Plan.{taken_plan}
+use Rattle.planning.proofs.Answer.{refused, taken_plan_lem, taken_few}
+use Rattle.planning.proofs.plan_of.Goals.{In_ok-common}
 use Rattle.planning.proofs.plan_of.Goals as goal
 
-pub returns-then-refusal-ne0 : goal.returns-then-refusal-ne0
-unfolding refused_plan empty_plan empty_line
-returns-then-refusal-ne0 c =
-    let s = c.args in
-    let a = c.admit-answer in
-    refused s.cores s.table.now a.result a.ensures c.if-refusal-ne0.true
+-- what admission's answer tells where it is none of a refusal
+abbrev admitted : In_ok-common → Admission
+admitted c = record { refusal = taken; common = c.in_ok-common.field-0.common; weights = c.in_ok-common.field-0.weights }
 
-pub drawn-plan-requires : goal.drawn-plan-requires
-drawn-plan-requires c =
+pub returns-in_err-common : goal.returns-in_err-common
+unfolding refused_with
+returns-in_err-common c =
     let s = c.args in
-    let a = c.admit-answer in
-    taken_few s.cores s.table.now a.result a.ensures c.if-refusal-ne0.false
+    let r = c.in_err-common.field-0.0 in
+    let e : c.from_residual.result ≡ Err r = search rules in
+    rw e (refused s.cores s.table.now (refused_with (told r)) c.in_err-common.ensures (λ z. refuses r.reason z))
+
+pub drawn-requires : goal.drawn-requires
+drawn-requires c =
+    let s = c.args in
+    taken_few s.cores s.table.now (admitted (goal.at.drawn-requires c).In_ok-common) c.in_ok-common.ensures refl
 
 pub returns : goal.returns
-unfolding taken_plan
 returns c =
     let s = c.args in
-    let a = c.admit-answer in
-    let t = c.if-refusal-ne0.false in
-    ap₂ (λ (r : Refusal) (pl : Plan). record { refusal = r; plan = pl }) (taken_none s.cores s.table.now a.result a.ensures t) c.drawn-plan.ensures
-    ∙ taken_plan_lem s.cores s.table.now a.result a.ensures t
+    ap taken_plan c.drawn.ensures ∙ taken_plan_lem s.cores s.table.now (admitted (goal.at.returns c).In_ok-common) c.in_ok-common.ensures refl

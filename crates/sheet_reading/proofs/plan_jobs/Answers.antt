@@ -1,12 +1,18 @@
 -- `sheet_reading::plan_jobs` meets its contract.
-use mathlib.Core.Path.{◌∙◌}
+use mathlib.Core.Path.{◌≡◌, refl}
+use Rattle.std.proofs.Common.{Err, rules}
+use Rattle.units.proofs.Refusals.{refuses}
+use Rattle.planning.specs.Plan.{refused_plan, taken_plan}
 use Rattle.sheet_reading.proofs.Plans.{plan_no, plan_is}
 use Rattle.sheet_reading.proofs.plan_jobs.Goals as goal
 
-pub returns-then-refusal-ne0 : goal.returns-then-refusal-ne0
-returns-then-refusal-ne0 c =
-    c.unread.ensures ∙ plan_no _ _ c.plan_of.ensures c.if-refusal-ne0.true
+pub returns-in_err-plan : goal.returns-in_err-plan
+unfolding refused_plan
+returns-in_err-plan c =
+    let r = c.in_err-plan.field-0.0 in
+    let e : c.from_residual.result ≡ Err r = search rules in
+    rw e (plan_no _ _ c.in_err-plan.ensures (λ z. refuses r.reason z))
 
 pub returns : goal.returns
-returns c =
-    plan_is _ _ c.plan_of.ensures c.if-refusal-ne0.false c.put_names-length.ensures
+unfolding taken_plan
+returns c = plan_is _ _ c.in_ok-plan.ensures refl c.put_names-length.ensures

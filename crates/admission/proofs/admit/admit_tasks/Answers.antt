@@ -6,7 +6,7 @@ use Rattle.units.specs.Units.{units}
 use Rattle.units.specs.declared.share.Share.{Share}
 use Rattle.units.proofs.Units.{units_nums}
 use Rattle.units.specs.Refusals.{refusal, taken, weights_no, period_no}
-use Rattle.admission.specs.Admission.{taken_with}
+use Rattle.admission.specs.Admission.{refused_with, taken_with}
 use Rattle.admission.proofs.Admitting.{answered, over, heavy, light, weighable, cores_small}
 use Rattle.admission.proofs.admit.admit_tasks.Goals as goal
 
@@ -19,14 +19,14 @@ overflow_mul-cores c = omega (arith, cores_small c.args.cores c.args.table.now c
 pub returns-then-cores-common : goal.returns-then-cores-common
 returns-then-cores-common c =
     let a = c.args in
-    c.refused-then-cores-common.ensures ∙ answered a.cores a.table.now (refusal weights_no 0)
+    ap refused_with c.from.ensures ∙ answered a.cores a.table.now (refusal weights_no 0)
     (heavy a.cores a.table.now c.requires c.in-Ok.common (sym c.in-Ok.ensures) (omega (arith, c.weigh.ensures.1, c.if-cores-common.true)))
     (λ z. omega arith)
 
 pub returns-in-Err : goal.returns-in-Err
 returns-in-Err c =
     let a = c.args in
-    c.refused.ensures ∙ answered a.cores a.table.now (refusal period_no c.in-Err.named)
+    answered a.cores a.table.now (refusal period_no c.in-Err.named)
     (over a.cores a.table.now c.requires c.in-Err.named (sym c.in-Err.ensures))
     (λ z. omega arith)
 

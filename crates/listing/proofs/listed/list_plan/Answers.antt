@@ -1,11 +1,12 @@
 -- `listing::listed::list_plan` meets its contract.
-use mathlib.Core.Path.{◌≡◌, ◌∙◌}
+use mathlib.Core.Path.{◌≡◌, ap, ◌∙◌}
 use native.Mathlib.Omega.{arith}
 use lib.ListN.{length}
 use Rattle.units.specs.Limits.{tasks_limit}
 use Rattle.soundness.proofs.Facts.{tasks_few}
 use Rattle.planning.specs.Shape.{PlanShaped}
 use Rattle.soundness.proofs.SoundKept.{sound_kept}
+use Rattle.listing.specs.Listed.{unlisted}
 use Rattle.listing.proofs.Wide.{wide}
 use Rattle.listing.proofs.Answers.{too_long, written}
 use Rattle.listing.proofs.Fits.{listing_length}
@@ -23,13 +24,13 @@ shaped s =
 pub bounds_of-lates-requires : goal.bounds_of-lates-requires
 bounds_of-lates-requires c = sound_kept c.args.plan (shaped (goal.at.bounds_of-lates-requires c).Start) c.requires
 
-pub put_plan-length-requires : goal.put_plan-length-requires
-put_plan-length-requires c =
+pub put_plan-requires : goal.put_plan-requires
+put_plan-requires c =
     (tasks_few c.args.plan c.requires, search rules)
 
 pub returns-then-buf-ge-LISTING : goal.returns-then-buf-ge-LISTING
 returns-then-buf-ge-LISTING c =
-    let w = c.put_plan-length.ensures.wrote in
+    let w = c.put_plan.ensures.wrote in
     let a = written c.args.plan w w.end (omega (
       arith,
       w.end,
@@ -46,13 +47,14 @@ put_plan-need-requires c =
 pub returns-then-buf-need : goal.returns-then-buf-need
 returns-then-buf-need c =
     let a = too_long c.args.plan c.args.buf.now c.put_plan-need.ensures.wrote.end c.if-buf-need.true in
-    record { value = c.unlisted.ensures ∙ a.0; buf_after = a.1 }
+    record { value = ap unlisted c.from.ensures ∙ a.0; buf_after = a.1 }
 
-pub put_plan-requires : goal.put_plan-requires
-put_plan-requires c =
+pub put_plan-requires-2 : goal.put_plan-requires-2
+put_plan-requires-2 c =
     (tasks_few c.args.plan c.requires, search rules)
 
 pub returns : goal.returns
 returns c =
-    let a = written c.args.plan c.put_plan.ensures.wrote c.put_plan-need.ensures.wrote.end c.if-buf-need.false in
+    let w = c.put_plan-2.ensures.wrote in
+    let a = written c.args.plan w w.end (omega (arith, w.end, c.put_plan-need.ensures.wrote.end, c.if-buf-need.false)) in
     record { value = a.0; buf_after = a.1 }

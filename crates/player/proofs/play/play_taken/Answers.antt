@@ -1,14 +1,15 @@
 -- `player::play::play_taken` meets its contract.
+use mathlib.Core.Path.{refl}
+use Rattle.units.proofs.Refusals.{refuses}
 use Rattle.writing.proofs.Wrote.{recast}
 use Rattle.player.proofs.Gives.{refused, taken}
 use Rattle.player.proofs.play.play_taken.Goals as goal
 
-pub returns-then-refusal-ne0-clause-wrote : goal.returns-then-refusal-ne0-clause-wrote
-returns-then-refusal-ne0-clause-wrote c =
-    let e = c.fresh-fresh.ensures in
-    recast (refused _ _ _ _ e c.if-refusal-ne0.true) c.put_refusal.ensures.wrote
+pub returns-in-Ok-clause-wrote : goal.returns-in-Ok-clause-wrote
+returns-in-Ok-clause-wrote c =
+    recast (taken _ _ _ _ c.in-Ok.ensures refl) c.play_calls.ensures.wrote
 
-pub returns-clause-wrote : goal.returns-clause-wrote
-returns-clause-wrote c =
-    let e = c.fresh-fresh.ensures in
-    recast (taken _ _ _ _ e c.if-refusal-ne0.false) c.play_calls.ensures.wrote
+pub returns-in-Err-clause-wrote : goal.returns-in-Err-clause-wrote
+returns-in-Err-clause-wrote c =
+    let r = c.in-Err.refusal in
+    recast (refused _ _ _ _ c.in-Err.ensures (λ z. refuses r.reason z)) c.put_refusal.ensures.wrote

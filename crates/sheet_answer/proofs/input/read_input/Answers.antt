@@ -18,7 +18,7 @@ pub slice_bounds-plan_sheet-start : goal.slice_bounds-plan_sheet-start
 slice_bounds-plan_sheet-start c = field_ends _ _ _ _ _ _ (search rules) (sym c.in-Some.ensures)
 
 pub returns-in-None : goal.returns-in-None
-returns-in-None c = c.unread.ensures ∙ input_none _ (sym c.in-None.ensures)
+returns-in-None c = input_none _ (sym c.in-None.ensures)
 
 pub returns-in-Some : goal.returns-in-Some
 returns-in-Some c =

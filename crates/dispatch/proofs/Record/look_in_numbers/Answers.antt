@@ -1,22 +1,23 @@
--- `dispatch::Record::look_or` meets its contract.
+-- `dispatch::Record::look_in_numbers` meets its contract.
+use Prim.Native.Nat.{ℕ, ◌≤◌}
+use mathlib.Core.Bool.{Bool}
+use mathlib.Core.Path.{◌≡◌, refl, sym, ◌∙◌}
+use native.Mathlib.Omega.{arith}
+use Rattle.units.specs.Limits.{tasks_limit}
+use Rattle.units.specs.Refusals.{core_no}
+use Rattle.units.proofs.Refusals.{refuses}
+use Rattle.call_tests.specs.Tests.{shared_tests}
+use Rattle.core_choice.specs.Told.{told_of}
+use Rattle.core_choice.specs.declared.Choice.TheVariants.{Idle}
+use Rattle.dispatch.specs.declared.Record.{Record}
+use Rattle.dispatch.specs.Look.{best_of, choice_of, at_time}
+use Rattle.dispatch.specs.Sound.{sound_of}
+use Rattle.dispatch.specs.Refusals.{look_refusal}
 use Rattle.dispatch.proofs.Looking.{best_more, best_task, told_idle, told_by}
 use Rattle.dispatch.proofs.Answers.{look_or_refused, look_or_taken}
 use Rattle.dispatch.proofs.Called.{CoreCall, core_call}
-use Rattle.core_choice.specs.Told.{told_of}
-use Rattle.dispatch.specs.Look.{best_of, choice_of, at_time}
-use Rattle.dispatch.specs.Refusals.{look_refusal}
-use Rattle.units.specs.Limits.{tasks_limit}
-use native.Mathlib.Omega.{arith}
-use mathlib.Core.Path.{◌≡◌, refl, sym, ◌∙◌}
-use Prim.Native.Nat.{◌≤◌}
-use Rattle.units.specs.Refusals.{core_no}
-use Rattle.call_tests.specs.Tests.{shared_tests}
-use Rattle.dispatch.specs.Sound.{sound_of}
-use Rattle.dispatch.specs.declared.Record.{Record}
-use mathlib.Core.Bool.{Bool}
-use Prim.Native.Nat.{ℕ}
-use Rattle.dispatch.proofs.Record.look_or.Goals.{After-loop-i, Then-no-eq0, then-best-gt0, else-best-gt0}
-use Rattle.dispatch.proofs.Record.look_or.Goals as goal
+use Rattle.dispatch.proofs.Record.look_in_numbers.Goals.{After-loop-i, In-Ok, then-best-gt0, else-best-gt0}
+use Rattle.dispatch.proofs.Record.look_in_numbers.Goals as goal
 
 -- the look's number
 own : (r : Record) (k t : ℕ) {sound : Bool} {n : ℕ} → sound ≡ sound_of r → n ≡ shared_tests sound core_no r.plan.cores k r.clock.0 t → n ≡ look_refusal r k t
@@ -24,10 +25,8 @@ unfolding look_refusal
 own r k t e q = rw e at q
 
 -- what is known if none applies
-known : (c : Then-no-eq0) → let s = c.args in CoreCall s.self s.core s.time.0
-known c =
-    let s = c.args in
-    core_call s.time.0 (sym (own s.self s.core s.time.0 c.sound-sound.ensures c.shared_tests-no.ensures) ∙ c.if-no-eq0.true)
+known : (c : In-Ok) → let s = c.args in CoreCall s.self s.core s.time.0
+known c = let s = c.args in core_call s.time.0 (sym (own s.self s.core s.time.0 c.sound-sound.ensures c.in-Ok.ensures))
 
 -- the best of all tasks
 found : (c : After-loop-i) → CoreCall c.args.self c.args.core c.args.time.0
@@ -45,20 +44,20 @@ unfolding best_of
 loop-i-init c = refl
 
 pub offset_bounds-lines-i : goal.offset_bounds-lines-i
-offset_bounds-lines-i c = omega (arith, (known (goal.at.offset_bounds-lines-i c).Then-no-eq0).tasks)
+offset_bounds-lines-i c = omega (arith, (known (goal.at.offset_bounds-lines-i c).In-Ok).tasks)
 
 pub bounds-lines-i : goal.bounds-lines-i
-bounds-lines-i c = omega (arith, (known (goal.at.bounds-lines-i c).Then-no-eq0).tasks)
+bounds-lines-i c = omega (arith, (known (goal.at.bounds-lines-i c).In-Ok).tasks)
 
 pub offset_bounds-states-i : goal.offset_bounds-states-i
-offset_bounds-states-i c = omega (arith, (known (goal.at.offset_bounds-states-i c).Then-no-eq0).tasks)
+offset_bounds-states-i c = omega (arith, (known (goal.at.offset_bounds-states-i c).In-Ok).tasks)
 
 pub bounds-states-i : goal.bounds-states-i
-bounds-states-i c = omega (arith, (known (goal.at.bounds-states-i c).Then-no-eq0).tasks)
+bounds-states-i c = omega (arith, (known (goal.at.bounds-states-i c).In-Ok).tasks)
 
 pub better_task-best-requires : goal.better_task-best-requires
 better_task-best-requires c =
-    let k = (known (goal.at.better_task-best-requires c).Then-no-eq0) in
+    let k = known (goal.at.better_task-best-requires c).In-Ok in
     (k.from, k.few, k.due c.loop-i.i (omega arith), k.time)
 
 pub loop-i-preserved : goal.loop-i-preserved
@@ -67,25 +66,26 @@ loop-i-preserved c =
     best_more (at_time s.self s.time.0) s.core c.loop-i.i c.loop-i.invariant c.better_task-best.ensures
 
 pub offset_bounds-states-best : goal.offset_bounds-states-best
-offset_bounds-states-best c = let p = goal.at.offset_bounds-states-best c in omega (arith, found_below p.After-loop-i (known p.Then-no-eq0))
+offset_bounds-states-best c = let p = goal.at.offset_bounds-states-best c in omega (arith, found_below p.After-loop-i (known p.In-Ok))
 
 pub bounds-states-best : goal.bounds-states-best
-bounds-states-best c = let p = goal.at.bounds-states-best c in omega (arith, found_below p.After-loop-i (known p.Then-no-eq0), c.if-best-gt0.true)
+bounds-states-best c = let p = goal.at.bounds-states-best c in omega (arith, found_below p.After-loop-i (known p.In-Ok), c.if-best-gt0.true)
 
 pub returns-after-best-gt0 : goal.returns-after-best-gt0
 returns-after-best-gt0 c =
     let s = c.args in
     let p = goal.at.returns-after-best-gt0 c in
     let r = at_time s.self s.time.0 in
-    let e = found p.After-loop-i (known p.Then-no-eq0) in
+    let e = found p.After-loop-i (known p.In-Ok) in
     let chosen : c.if-best-gt0.chosen ≡ told_of (choice_of r s.core) =
     elim c.if-best-gt0.branch [
       | then-best-gt0 w ↦ w.chosen-is ∙ told_by r s.core e w.told-chosen.ensures
       | else-best-gt0 w ↦ w.chosen-is ∙ told_idle r s.core e (omega (arith, w.if-best-gt0.false))
     ] in
-    sym (look_or_taken s.self s.core s.time.0 s.told (own s.self s.core s.time.0 c.sound-sound.ensures c.shared_tests-no.ensures) c.if-no-eq0.true chosen)
+    sym (look_or_taken s.self s.core s.time.0 (told_of Idle) (own s.self s.core s.time.0 c.sound-sound.ensures c.in-Ok.ensures) refl chosen)
 
-pub returns-else-no-eq0 : goal.returns-else-no-eq0
-returns-else-no-eq0 c =
+pub returns-in-Err : goal.returns-in-Err
+returns-in-Err c =
     let s = c.args in
-    sym (look_or_refused s.self s.core s.time.0 s.told (own s.self s.core s.time.0 c.sound-sound.ensures c.shared_tests-no.ensures) c.if-no-eq0.false)
+    sym (look_or_refused s.self s.core s.time.0 (told_of Idle) (own s.self s.core s.time.0 c.sound-sound.ensures c.in-Err.ensures)
+    (λ z. refuses c.in-Err.reason z))
