@@ -1,3 +1,4 @@
+pub mod Letters
 pub mod Ends
 pub mod Written
 pub mod Parts
