@@ -1,13 +1,20 @@
 -- A signed number's text, by whether it is below 0; it went through a word of the machine as y.
-use Prim.Native.Nat.{ℕ}
+use Prim.Native.Nat.{ℕ, zero, suc, ◌<◌, ◌^◌}
 use mathlib.Core.Path.{◌≡◌, refl, ap, ◌∙◌}
 use mathlib.Core.Bool.{true, false}
 use mathlib.Core.List.{◌∷◌}
 use native.Mathlib.Omega.{arith}
-use lib.IntN.{ℤ, pos, negsuc, nat_abs}
+use lib.IntN.{ℤ, pos, negsuc, neg_ℤ, nat_abs}
 use lib.Signed.{lt_z}
 use borrow.Author.Tests.{ltb-true}
+use mir.Syntax.{w64}
+use mir.Val.{SFits}
 use Rattle.writing.specs.Decimal.{decimal_of, signed_of}
+
+-- a number that fits does so below 0 too
+pub neg_fits : (n : ℕ) → n < 2 ^ 63 → SFits w64 (neg_ℤ (pos n))
+neg_fits zero h = record { sfits = h }
+neg_fits (suc n) h = record { sfits = omega arith }
 
 below : (z : ℤ) → lt_z z (pos 0) ≡ true → 45 ∷ decimal_of (nat_abs z) ≡ signed_of z
 unfolding signed_of
