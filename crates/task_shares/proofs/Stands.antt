@@ -1,12 +1,12 @@
 -- How a task stands on a core says what the tests on its row say.
-use Prim.Native.Nat.{ℕ, ◌<◌}
+use Prim.Native.Nat.{ℕ, ◌≤◌, ◌<◌}
 use mathlib.Core.Path.{◌≡◌, refl, sym, ap, ◌∙◌}
 use mathlib.Core.Bool.{Bool, true, false, cond, not, ◌&&◌, and-false}
 use mathlib.Core.List.{List}
 use native.Mathlib.Omega.{arith}
 use lib.Dec.{ltb, eqb}
 use lib.ListN.{get_or}
-use borrow.Author.Tests.{ltb-true, ltb-false, eq-eqb, ne_eqb}
+use borrow.Author.Tests.{ltb-true, ltb-false, lt-ltb, le-ltb, eq-eqb, ne_eqb}
 use Rattle.units.specs.declared.share.Share.{Share}
 use Rattle.units.specs.Units.{share, nums}
 use Rattle.units.proofs.Units.{nums_at}
@@ -88,6 +88,24 @@ module _ (p : ℕ) (row : List ℕ) where
 pub found : (ss : List Share) (p f : ℕ) (m : Bool) → m ≡ moves (nums ss) → f ≡ first_core (nums ss)
     → standing_by m (get_or ss p (share 0)).0 f p ≡ standing_on p (nums ss)
 found ss p f m e g = rw (e, g, nums_at ss p)
+
+-- how a task with share s on core p and the first core f stands there
+module _ (m : Bool) (s f p : ℕ) where
+  -- one that has none
+  pub is_absent : s ≤ 0 → Absent ≡ standing_by m s f p
+  is_absent h = rw (le-ltb 0 s h)
+
+  -- one that does not move
+  pub is_fixed_lem : 0 < s → m ≡ false → Fixed ≡ standing_by m s f p
+  is_fixed_lem h e = rw (lt-ltb 0 s h, e)
+
+  -- one that moves, on its first core
+  pub is_lower_lem : 0 < s → m ≡ true → f ≡ p → Lower ≡ standing_by m s f p
+  is_lower_lem h e k = rw (lt-ltb 0 s h, e, eq-eqb f p k)
+
+  -- and on another
+  pub is_upper_lem : 0 < s → m ≡ true → (f ≡ p → ⊥) → Upper ≡ standing_by m s f p
+  is_upper_lem h e k = rw (lt-ltb 0 s h, e, ne_eqb f p k)
 
 -- a match that leaves the upper movers to another arm
 pub but_upper : (s : Standing) → (s ≡ Upper → ⊥) → is_upper s ≡ false
