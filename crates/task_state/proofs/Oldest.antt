@@ -3,7 +3,8 @@ use Prim.Native.Nat.{ℕ, zero, suc}
 use mathlib.Core.Path.{◌≡◌, refl, sym, ◌∙◌}
 use mathlib.Core.List.{List, [], ◌∷◌, ◌++◌, map}
 use native.Mathlib.Omega.{arith}
-use lib.ListN.{length, get_or, drop, length-append, length-drop, length-map}
+use lib.ListN.{length, get_or, drop, drop_of_length-le, length-append, length-drop, length-map}
+use lib.Seq.{drop-cons}
 use Rattle.units.specs.declared.ticks.Ticks.{Ticks}
 use Rattle.units.specs.Limits.{runs_limit}
 use Rattle.units.specs.contracts.ticks.Ticks.{the_field}
@@ -28,3 +29,21 @@ module _ {A : Type 0} (none : A) where
   -- the length stays
   pub up_long : (xs : List A) → length xs ≡ runs_limit → length (drop 1 xs ++ (none ∷ [])) ≡ runs_limit
   up_long xs e = length-append (drop 1 xs) (none ∷ []) ∙ simp length-drop (omega (arith, e))
+
+  -- seven move up and none comes last
+  abbrev pub moved_up : List A → List A
+  moved_up xs = get_or xs 1 none ∷ get_or xs 2 none ∷ get_or xs 3 none ∷ get_or xs 4 none ∷ get_or xs 5 none ∷ get_or xs 6 none ∷ get_or xs 7 none ∷ none ∷ []
+
+  -- what is left of eight without the oldest
+  pub moved_up_lem : (xs : List A) → length xs ≡ runs_limit → drop 1 xs ++ (none ∷ []) ≡ moved_up xs
+  moved_up_lem xs e =
+      rw (
+        drop-cons xs 1 none (omega arith),
+        drop-cons xs 2 none (omega arith),
+        drop-cons xs 3 none (omega arith),
+        drop-cons xs 4 none (omega arith),
+        drop-cons xs 5 none (omega arith),
+        drop-cons xs 6 none (omega arith),
+        drop-cons xs 7 none (omega arith),
+        drop_of_length-le xs {i = 8} (omega arith),
+      )
