@@ -1,18 +1,19 @@
 -- The listing's pieces in the form in which the writers meet them.
-use Prim.Native.Nat.{ℕ, zero, suc, ◌+◌}
+use Prim.Native.Nat.{ℕ, zero, suc, ◌+◌, ◌≤◌}
 use mathlib.Core.Path.{◌≡◌, refl, sym, ap, ◌∙◌}
 use mathlib.Core.List.{List, [], ◌∷◌, ◌++◌, append_assoc, append-nil}
-use mathlib.Core.Bool.{true, false}
+use mathlib.Core.Bool.{Bool, true, false, cond}
 use native.Mathlib.Nat.{add-zero}
 use native.Mathlib.Numerals.{add-one}
 use native.Mathlib.Omega.{arith}
 use borrow.Author.Tests.{ne_eqb}
 use lib.IntN.{ℤ, pos}
-use lib.Dec.{ltb}
-use lib.ListN.{get_or, take}
+use lib.Dec.{ltb, eqb}
+use lib.ListN.{length, get_or, take, drop}
 use Rattle.units.specs.declared.share.Share.{Share}
 use Rattle.units.specs.Units.{share, nums}
-use Rattle.lists.specs.Lists.{parts}
+use Rattle.lists.specs.Lists.{parts, first_part}
+use Rattle.lists.proofs.Tests.{by_cases}
 use Rattle.writing.specs.Ascii.{ascii}
 use Rattle.planning.specs.declared.Line.{Line}
 use Rattle.planning.specs.Plan.{no_line}
@@ -41,6 +42,41 @@ cores_more ss k =
     ap (λ (m : ℕ). shares_text 1 (nums (take k ss)) ++ share_text m (get_or ss k (share 0)).0) (omega arith)
     ∙ shares_more 1 ss k
     ∙ ap (λ (m : ℕ). shares_text 1 (nums (take m ss))) (sym (add-one k))
+
+-- before the first part there is no text
+pub first_text_lem : (q : ℕ) (ss : List Share) → [] ≡ shares_text q (nums (take (first_part (nums ss)) ss))
+first_text_lem q [] = refl
+first_text_lem q (s ∷ ss) = by_cases (eqb s.0 0) (λ t. rw t (rw t (first_text_lem (suc q) ss))) (λ t. rw t)
+
+-- and no other part
+pub first_left : (row : List ℕ) → parts row ≡ parts (drop (first_part row) row)
+first_left [] = refl
+first_left (x ∷ row) =
+    by_cases (eqb x 0)
+    (λ t. rw t (first_left row))
+    (λ t. ap (λ (b : Bool). parts (drop (cond b (suc (first_part row)) 0) (x ∷ row))) (sym t))
+
+-- it is one of the cores, or past the last
+pub first_in : (row : List ℕ) → first_part row ≤ length row
+first_in [] = omega arith
+first_in (x ∷ row) = by_cases (eqb x 0) (λ t. rw t (omega (arith, first_in row))) (λ t. rw t (omega arith))
+
+-- with no part left there is no text left
+none_text : (q : ℕ) (row : List ℕ) → parts row ≡ 0 → [] ≡ shares_text q row
+none_text q [] e = refl
+none_text q (x ∷ row) e =
+    by_cases (eqb x 0) (λ t. rw t (none_text (suc q) row (rw t at e))) (λ t. absurd (omega (arith, rw t at e)))
+
+-- from core q on
+done_from : (q : ℕ) (ss : List Share) (k : ℕ) → parts (drop k (nums ss)) ≡ 0 → shares_text q (nums (take k ss)) ≡ shares_text q (nums ss)
+done_from q [] zero e = refl
+done_from q [] (suc k) e = refl
+done_from q (s ∷ ss) zero e = none_text q (nums (s ∷ ss)) e
+done_from q (s ∷ ss) (suc k) e = ap (λ (t : List ℕ). share_text q s.0 ++ t) (done_from (suc q) ss k e)
+
+-- so the shares' text is whole once no part is left
+pub shares_done : (ss : List Share) (k : ℕ) → parts (drop k (nums ss)) ≡ 0 → shares_text 1 (nums (take k ss)) ≡ shares_text 1 (nums ss)
+shares_done = done_from 1
 
 -- the row of a task that moves, by how many parts it has
 pub row_moves : (row : List ℕ) {n : ℕ} → n ≡ parts row → true ≡ ltb 1 n → ascii " moves" ++ shares_text 1 row ≡ row_text row
