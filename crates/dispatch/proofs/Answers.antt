@@ -103,6 +103,16 @@ module _ (r : Record) (i t : ℕ) where
     unfolding look_or
     look_or_taken q e w = rw (look_taken q e refl, e, w)
 
+  -- every other number 0 where a release is refused: the release of document 01
+  pub release_or_zeros : release_or r i t 0 (ticks 0) ≡ release_of r i t
+  unfolding release_or release_of take_release refuse_release
+  release_or_zeros = by_cases (eqb (release_refusal r i t) 0) (λ e. rw e) (λ e. rw (e, e))
+
+  -- and the finish
+  pub finish_or_zero : {z : ℤ} → z ≡ pos 0 → finish_or r i t z ≡ finish_of r i t
+  unfolding finish_or finish_of take_finish refuse_finish
+  finish_or_zero s = rw s (by_cases (eqb (finish_refusal r i t) 0) (λ e. rw e) (λ e. rw (e, e)))
+
   -- and the choice of its numbers, those of an idle core where it is refused
   told_idle : choice_told (look_or r i t (told_of Idle)).told ≡ (look_of r i t).choice
   unfolding look_or look_of
