@@ -17,6 +17,7 @@ use Rattle.arrivals.specs.Arrivals.{arrivals_in, arrival_time}
 use Rattle.run_lengths.specs.Work.{fresh_work}
 use Rattle.fronts.specs.declared.Front.{Front}
 use Rattle.fronts.specs.Front.{no_front, front_of}
+use Rattle.fronts.specs.Inner.{Frontable}
 use Rattle.front_rows.specs.Rows.{fronts_in}
 use Rattle.front_rows.proofs.Rows.{fronts_long, put_long, fronts_put}
 use Rattle.rehearsal.specs.Parts.{coming_at, fresh_fronts}
@@ -33,6 +34,16 @@ coming_cases xs k stop =
     (λ f. inl (ltb-true k (arrivals_in xs) e, ltb-true (arrival_time xs k) stop f, rw (e, f)))
     (λ f. inr (rw (e, f), λ h. ltb-false (arrival_time xs k) stop f)))
     (λ e. inr (rw e, λ h. absurd (omega (arith, ltb-false k (arrivals_in xs) e))))
+
+-- a front of a task that has had no run can be asked
+pub fresh_asked : (ln : Line) → Frontable ln fresh_state fresh_work
+unfolding fresh_state fresh_work
+fresh_asked ln = record {
+  placed = λ h. absurd (omega arith);
+  here = λ h. absurd (omega arith);
+  due = λ h. absurd (omega arith);
+  few = omega arith;
+}
 
 -- task n's front, in turn
 abbrev fresh_at : List Line → ℕ → Front
