@@ -2,3 +2,4 @@ pub mod Texts
 pub mod Plays
 pub mod Gives
 pub mod Settled
+pub mod Room
