@@ -36,6 +36,17 @@ pub fn shared_tests(
     Ok(())
 }
 
+// The same by number, with any number for a wrong task or core: `Reason::Task` stands in its place.
+pub fn shared_number(sound: bool, wrong: u32, n: usize, i: usize, clock: Ticks, time: Ticks) -> u32
+    ensures { result ≡ shared_tests sound wrong n i clock.0 time.0 }
+{
+    match shared_tests(sound, Reason::Task, n, i, clock, time) {
+        Ok(()) => 0,
+        Err(Reason::Task) => wrong,
+        Err(reason) => reason.number(),
+    }
+}
+
 // Those of a release, by its release time and its task's unfinished runs: 12, then 10.
 pub fn release_tests(released: Ticks, live: usize) -> Result<(), Reason>
     ensures { number_said result ≡ release_tests released.0 live }
