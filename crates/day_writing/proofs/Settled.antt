@@ -4,8 +4,12 @@ use mathlib.Core.Path.{sym, ap₂, ◌∙◌}
 use mathlib.Core.List.{List}
 use Rattle.lists.specs.Settled.{SettledLent}
 use Rattle.day_window.proofs.Windows.{settled}
+use Rattle.day_writing.proofs.put_arrival_numbered.Reads as PutArrivalNumbered
 use Rattle.day_writing.proofs.put_arrival.Reads as PutArrival
 use Rattle.day_writing.proofs.put_spans.Reads as PutSpans
+
+pub put_arrival_numbered_lem : SettledLent (λ κs e. e.0.now) PutArrivalNumbered.Post
+put_arrival_numbered_lem κs a x y e f p q = settled p.0 q.0
 
 pub put_arrival_lem : SettledLent (λ κs e. e.0.now) PutArrival.Post
 put_arrival_lem κs a x y e f p q = settled p.0 q.0

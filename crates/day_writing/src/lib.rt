@@ -21,8 +21,29 @@ use units::limits::CORES;
 use units::refusal::Reason;
 use units::ticks::Ticks;
 
-// A refused arrival; nothing where it is taken.
+// An arrival refused by any number; nothing where that is 0.
 #[tactic(auto, using(day_window::proofs::Windows::none, day_window::proofs::Saying::alone))]
+pub fn put_arrival_numbered(
+    out: &mut [u8],
+    skip: usize,
+    at: usize,
+    no: u32,
+    arrival: usize,
+    task: usize,
+    time: Ticks,
+) -> usize
+    requires { at + 180 ≤ place_limit }
+    ensures windowed { Windowed out.old skip at (events_text (cond (eqb no 0) [] (Refused no arrival task time ∷ []))) out.new result }
+    ensures upper_bound { result ≤ at + 180 }
+{
+    if no == 0 {
+        return at;
+    }
+    put_within(out, skip, at, Event::Refused(no, arrival, task, time))
+}
+
+// A refused arrival; nothing where it is taken.
+#[tactic(auto, using(day_window::proofs::Windows::none))]
 pub fn put_arrival(
     out: &mut [u8],
     skip: usize,
@@ -38,12 +59,7 @@ pub fn put_arrival(
 {
     match taken {
         Ok(()) => at,
-        Err(reason) => put_within(
-            out,
-            skip,
-            at,
-            Event::Refused(reason.number(), arrival, task, time),
-        ),
+        Err(reason) => put_arrival_numbered(out, skip, at, reason.number(), arrival, task, time),
     }
 }
 
