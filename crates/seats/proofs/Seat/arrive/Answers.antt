@@ -22,7 +22,7 @@ use Rattle.seats.specs.Seat.{seat, arrived_of, arrival_told}
 use Rattle.seats.proofs.Seat.arrive.Goals.{Else-is_err}
 use Rattle.seats.proofs.Seat.arrive.Goals as goal
 
--- no refusal has number 0
+-- an answer that is no refusal tells 0
 no_refusal : (r : Result (Unit {0}) Reason) → is_err r ≡ false → number_said r ≡ 0
 no_refusal (Ok x) e = refl
 no_refusal (Err x) e = absurd (search rules)
