@@ -22,7 +22,6 @@ use units::refusal::Reason;
 use units::ticks::Ticks;
 
 // An arrival refused by any number; nothing where that is 0.
-#[tactic(auto, using(day_window::proofs::Windows::none, day_window::proofs::Saying::alone))]
 pub fn put_arrival_numbered(
     out: &mut [u8],
     skip: usize,
