@@ -10,7 +10,8 @@ use Rattle.fronts.proofs.front_of.Goals as goal
 
 -- of a task without a run
 none : (ln : Line) (st : State) (wk : Work) → st.live ≡ 0
-    → record { core = 0; release = record { 0 = 0 }; key = 0; length = get_or wk.lengths 0 0; run = wk.ended + 1; last = st.last; period = ln.period.0 } ≡ front_of ln st wk
+    → record { core = 0; release = record { 0 = 0 }; key = 0; length = get_or wk.lengths 0 0; run = wk.ended + 1; last = st.last; period = ln.period.0 }
+    ≡ front_of ln st wk
 unfolding front_of
 none ln st wk e = rw e
 
